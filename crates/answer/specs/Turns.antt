@@ -1,0 +1,29 @@
+-- Looks that are taken in turn: the first one that finds a fault gives the answer.
+-- Assumes nothing.
+use Prim.Native.Nat.{ℕ, zero, suc}
+use mathlib.Core.Bool.{Bool, cond}
+use lib.Dec.{eqb}
+use Rattle.answer.specs.declared.Answer.{Answer}
+
+-- a look: the refusal's number where its fault is there, else what the next look finds; 0 where none finds a fault
+abbrev pub look : Bool → ℕ → ℕ → ℕ
+look fault number next = cond fault number next
+
+-- "acceptance answers 0, 0, 0"
+abbrev pub accepted : Answer
+accepted = record { number = 0; table = 0; row = 0 }
+
+-- "The answer is number, table, row"
+unfoldable pub refuse : ℕ → ℕ → ℕ → Answer
+refuse number table row = cond (eqb number 0) accepted (record { number = number; table = table; row = row })
+
+infixl 20 _then_
+
+-- the first of two answers that refuses
+unfoldable pub _then_ : Answer → Answer → Answer
+a then b = cond (eqb (a .number) 0) b a
+
+-- the first refusal of the rows 0, 1, .. n − 1 of a table; f gives each row's number, 0 where the row is fine
+unfoldable pub first : ℕ → (ℕ → ℕ) → ℕ → Answer
+first table f zero = accepted
+first table f (suc n) = first table f n then refuse (f n) table n
