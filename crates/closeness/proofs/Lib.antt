@@ -1,0 +1,5 @@
+pub mod Positions
+pub mod Squares
+pub mod Level
+pub mod Exchange
+pub mod Promises

@@ -1,6 +1,6 @@
 -- Laws of lists made entry by entry: their length, their entries, and that storing one after the other leaves just the rest.
 -- Assumes nothing.
-use mathlib.Core.Path.{_≡_, refl, sym, ap, _∙_}
+use mathlib.Core.Path.{_≡_, refl, sym, ap, ap₂, _∙_}
 use mathlib.Core.Logic.{⊎-elim}
 use mathlib.Core.List.{List, [], _∷_, _++_, append-assoc}
 use Prim.Native.Nat.{ℕ, zero, suc, _+_, _≤_, _<_}
@@ -8,7 +8,7 @@ use native.Mathlib.Nat.{le-of-suc-le, le-step, not-suc-le-zero, lt-suc-self}
 use native.Mathlib.Numerals.{add-one}
 use native.Mathlib.Omega.{arith}
 use lib.ListN.{length, getD, set, drop, length-set, length-append, List·getD-append}
-use lib.Seq.{drop-cons, set-at, getD-at, append-snoc, ext-getD}
+use lib.Seq.{drop-cons, set-at, getD-at, append-snoc, ext-getD, getD-set-other, drop-at}
 use Rattle.lists.specs.Sums.{sumTo, at, total}
 use Rattle.lists.specs.Entries.{listed, put}
 use Rattle.lists.proofs.Sums.{last-or-below, sum-eq}
@@ -57,6 +57,35 @@ put-listed (suc n) f l h =
     ∙ set-at (listed n f) (at l n) (drop (suc n) l) (f n) n (length-listed n f)
     ∙ sym (append-assoc (listed n f) (f n ∷ []) (drop (suc n) l))
 
+pub put-none : (f : ℕ → ℕ) (l : List ℕ) → put 0 f l ≡ l
+unfolding put
+put-none f l = refl
+
+-- the words from n on are as they were
+pub put-ahead : (n : ℕ) (f : ℕ → ℕ) (l : List ℕ) (i : ℕ) → n ≤ i → at (put n f l) i ≡ at l i
+unfolding put
+put-ahead zero f l i h = refl
+put-ahead (suc n) f l i h =
+    getD-set-other (put n f l) n i (f n) 0 (λ e. let k : i ≡ n = e in omega arith) ∙ put-ahead n f l i (le-of-suc-le h)
+
 pub put-suc : (n : ℕ) (f : ℕ → ℕ) (l : List ℕ) → put (n + 1) f l ≡ set (put n f l) n (f n)
 unfolding put
 put-suc n f l = rw add-one
+
+pub put-eq : (n : ℕ) (f g : ℕ → ℕ) (l : List ℕ) → ((i : ℕ) → i < n → f i ≡ g i) → put n f l ≡ put n g l
+unfolding put
+put-eq zero f g l e = refl
+put-eq (suc n) f g l e = ap₂ (λ k v. set k n v) (put-eq n f g l (λ i b. e i (le-step b))) (e n (lt-suc-self n))
+
+pub at-put : (n : ℕ) (f : ℕ → ℕ) (l : List ℕ) → n ≤ length l → (i : ℕ) → i < n → at (put n f l) i ≡ f i
+at-put n f l h i b =
+    let within : i < length (listed n f) = rw length-listed b in
+    ap (λ k. at k i) (put-listed n f l h) ∙ List·getD-append (listed n f) (drop n l) 0 i within ∙ at-listed n f i b
+
+-- storing over what was stored
+pub put-over : (n : ℕ) (f g : ℕ → ℕ) (l : List ℕ) → n ≤ length l → put n g (put n f l) ≡ put n g l
+put-over n f g l h =
+    put-listed n g (put n f l) (rw length-put h)
+    ∙ ap (λ k. listed n g ++ drop n k) (put-listed n f l h)
+    ∙ ap (λ k. listed n g ++ k) (drop-at (listed n f) (drop n l) n (length-listed n f))
+    ∙ sym (put-listed n g l h)

@@ -3,14 +3,14 @@
 -- Assumes nothing.
 use mathlib.Core.Path.{_≡_, refl, sym, ap, ap₂, _∙_, subst}
 use mathlib.Core.Logic.{_⊎_, inl, inr, ⊎-elim, _≢_}
-use mathlib.Core.Bool.{Bool, true, false, not, true≢false}
+use mathlib.Core.Bool.{Bool, true, false, not, true≢false, _&&_, _||_}
 use Prim.Native.Nat.{ℕ, zero, suc, _+_, _-_, _*_, _≤_, _<_, min}
 use native.Mathlib.Nat.{le-step, lt-suc-self, le-refl, ne-of-lt}
 use native.Mathlib.Omega.{arith}
 use native.Mathlib.Decide.{decLt}
-use lib.Dec.{ltb}
-use borrow.Author.Tests.{lt-ltb, le-ltb, ltb-true, ltb-false}
-use Rattle.lists.specs.Sums.{sumTo, bit, count, rank}
+use lib.Dec.{ltb, eqb}
+use borrow.Author.Tests.{lt-ltb, le-ltb, ltb-true, ltb-false, eq-eqb, ne-eqb, eqb-true}
+use Rattle.lists.specs.Sums.{sumTo, bit, count, rank, largestFirst}
 use Rattle.lists.proofs.Sums.{sum-eq, sum-zero, count-implied, count-more, last-or-below, count-le}
 
 -- an order of positions in which none stands before itself, and of two one stands before the other
@@ -114,3 +114,65 @@ module _ (before : ℕ → ℕ → Bool) (o : Ordered before) where
     where
       R : ℕ
       R = rank n before n
+
+-- largest first, lower position first among equals, is such an order
+either : (s t u : Bool) → (s || (t && u)) ≡ true → (s ≡ true) ⊎ ((t ≡ true) × (u ≡ true))
+either true t u e = inl refl
+either false true u e = inr (refl, e)
+either false false u e = absurd (true≢false (sym e))
+
+pub comes-first : (f : ℕ → ℕ) (j i : ℕ) → largestFirst f j i ≡ true → (f i < f j) ⊎ ((f i ≡ f j) × (j < i))
+unfolding largestFirst
+comes-first f j i e =
+    ⊎-elim
+    (λ l. inl (ltb-true (f i) (f j) l))
+    (λ b. inr (eqb-true (f i) (f j) (b .0), ltb-true j i (b .1)))
+    (either (ltb (f i) (f j)) (eqb (f i) (f j)) (ltb j i) e)
+
+pub larger-first : (f : ℕ → ℕ) (j i : ℕ) → f i < f j → largestFirst f j i ≡ true
+unfolding largestFirst
+larger-first f j i l = rw (lt-ltb (f i) (f j) l)
+
+pub lower-first : (f : ℕ → ℕ) (j i : ℕ) → f i ≡ f j → j < i → largestFirst f j i ≡ true
+unfolding largestFirst
+lower-first f j i e l = rw (le-ltb (f i) (f j) (omega arith), eq-eqb (f i) (f j) e, lt-ltb j i l)
+
+pub smaller-later : (f : ℕ → ℕ) (j i : ℕ) → f j < f i → largestFirst f j i ≡ false
+unfolding largestFirst
+smaller-later f j i l = rw (le-ltb (f i) (f j) (omega arith), ne-eqb (f i) (f j) (λ e. omega arith))
+
+pub higher-later : (f : ℕ → ℕ) (j i : ℕ) → f i ≡ f j → i ≤ j → largestFirst f j i ≡ false
+unfolding largestFirst
+higher-later f j i e l = rw (le-ltb (f i) (f j) (omega arith), eq-eqb (f i) (f j) e, le-ltb j i l)
+
+pub largest-first-ordered : (f : ℕ → ℕ) → Ordered (largestFirst f)
+largest-first-ordered f =
+    record {
+      irreflexive = λ i. higher-later f i i refl (le-refl i);
+      transitive = λ i j k a b.
+        ⊎-elim
+        (λ (x : f j < f i).
+          ⊎-elim
+          (λ (y : f k < f j). larger-first f i k (omega arith))
+          (λ (y : (f k ≡ f j) × (j < k)). larger-first f i k (omega arith))
+          (comes-first f j k b))
+        (λ (x : (f j ≡ f i) × (i < j)).
+          ⊎-elim
+          (λ (y : f k < f j). larger-first f i k (omega arith))
+          (λ (y : (f k ≡ f j) × (j < k)). lower-first f i k (omega arith) (omega arith))
+          (comes-first f j k b))
+        (comes-first f i j a);
+      connected = λ i j d e.
+        ⊎-elim
+        (λ (x : f i < f j). larger-first f j i x)
+        (λ (x : f j ≤ f i).
+          ⊎-elim
+          (λ (y : f j < f i). absurd (true≢false (sym (larger-first f i j y) ∙ e)))
+          (λ (y : f i ≤ f j).
+            ⊎-elim
+            (λ (z : j < i). lower-first f j i (omega arith) z)
+            (λ (z : i ≤ j). absurd (true≢false (sym (lower-first f i j (omega arith) (omega (arith, d))) ∙ e)))
+            (lt-or-le j i))
+          (lt-or-le (f j) (f i)))
+        (lt-or-le (f i) (f j))
+    }

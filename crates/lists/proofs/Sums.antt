@@ -14,6 +14,10 @@ use Rattle.lists.specs.Sums.{sumTo, bit, count, every}
 pub last-or-below : (n i : ℕ) → i < suc n → (i ≡ n) ⊎ (i < n)
 last-or-below n i h = eq-or-lt-of-le (le-of-suc-le-suc h)
 
+pub sum-none : (f : ℕ → ℕ) → sumTo 0 f ≡ 0
+unfolding sumTo
+sum-none f = refl
+
 pub sum-suc : (n : ℕ) (f : ℕ → ℕ) → sumTo (n + 1) f ≡ sumTo n f + f n
 unfolding sumTo
 sum-suc n f = rw add-one

@@ -1,8 +1,9 @@
 -- Sums, counts, ranks and tests over the positions 0, 1, .. n − 1.
 -- Assumes nothing.
 use Prim.Native.Nat.{ℕ, zero, suc, _+_}
-use mathlib.Core.Bool.{Bool, true, false, _&&_}
+use mathlib.Core.Bool.{Bool, true, false, _&&_, _||_}
 use mathlib.Core.List.{List}
+use lib.Dec.{ltb, eqb}
 use lib.ListN.{length, getD}
 
 -- f 0 + f 1 + .. + f (n − 1)
@@ -27,6 +28,10 @@ every (suc n) t = every n t && t n
 -- the place of position i in an order of the positions below n: how many stand before it (`before j i`: j stands before i)
 abbrev pub rank : ℕ → (ℕ → ℕ → Bool) → ℕ → ℕ
 rank n before i = count n (λ j. before j i)
+
+-- the order by what each position holds, largest first, lower position first among equals: position j comes before i
+unfoldable pub largestFirst : (ℕ → ℕ) → ℕ → ℕ → Bool
+largestFirst f j i = ltb (f i) (f j) || (eqb (f i) (f j) && ltb j i)
 
 -- the entry at a position of a list, 0 past its end
 abbrev pub at : List ℕ → ℕ → ℕ

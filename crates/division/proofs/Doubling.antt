@@ -1,0 +1,41 @@
+-- Long division by doubling: with one binary digit more of the pot, quotient and remainder are twice what they were, and the
+-- weight where the digit is 1.
+-- Assumes nothing.
+use mathlib.Core.Path.{_≡_, refl, sym, ap, _∙_}
+use Prim.Native.Nat.{ℕ, suc, _+_, _*_, _/_, _%_, _-_, _^_, _≤_, _<_}
+use native.Mathlib.Nat.{div-add-mod, div-eq-of-lt, div-one, le-of-mul-le-mul-right, mul-le-mul, zero-mul}
+use native.Mathlib.Numerals.{add-one}
+use native.Mathlib.Omega.{arith}
+use lib.Arith.{digits-div, digits-mod}
+use lib.Count.{leadingZeros, leading-length}
+use lib.Pow.{shr-shr, shr-le}
+use Rattle.division.specs.Steps.{CutOnce}
+
+-- a number without its lowest k digits is twice what it is without one more, and that digit
+pub one-digit : (n k : ℕ) → n / 2 ^ k ≡ 2 * (n / 2 ^ (k + 1)) + n / 2 ^ k % 2
+one-digit n k = sym (div-add-mod (n / 2 ^ k) 2) ∙ ap (λ m. 2 * m + n / 2 ^ k % 2) (shr-shr n k 1)
+
+-- nothing is left of a number without all its digits
+pub no-digits : (n : ℕ) → n < 2 ^ 64 → n / 2 ^ (64 - leadingZeros 64 n) ≡ 0
+no-digits n h =
+    let digits = leading-length 64 n h in
+    let as-many : 64 - leadingZeros 64 n ≡ digits .0 = omega (arith, digits .1) in
+    rw as-many (div-eq-of-lt (digits .2))
+
+module _ (cents whole rest high weight : ℕ) (holds : cents * whole + rest ≡ high * weight) where
+  pub doubled : (digit next t₁ r₁ t₂ r₂ : ℕ) → next ≡ 2 * high + digit → CutOnce (2 * rest) whole t₁ r₁ → CutOnce (r₁ + digit * weight) whole t₂ r₂
+    → (2 * cents + t₁ + t₂) * whole + r₂ ≡ next * weight
+  doubled digit next t₁ r₁ t₂ r₂ e one two = omega (arith, ap (λ k. k * weight) e, one .adds-up, two .adds-up)
+
+  -- the quotient is never above the pot
+  pub within : (pot : ℕ) → high ≤ pot → weight ≤ whole → 0 < whole → cents ≤ pot
+  within pot h w p =
+      let most : high * weight ≤ pot * whole = mul-le-mul h w in
+      let below : cents * whole ≤ pot * whole = omega arith in
+      le-of-mul-le-mul-right below p
+
+  pub quotient-is : rest < whole → cents ≡ high * weight / whole
+  quotient-is below = sym (digits-div cents below) ∙ ap (λ n. n / whole) holds
+
+  pub remainder-is : rest < whole → rest ≡ high * weight % whole
+  remainder-is below = sym (digits-mod cents below) ∙ ap (λ n. n % whole) holds

@@ -1,0 +1,178 @@
+-- What the code stores is the shares: its whole is the sum of the weights (or 1, where the pot is 0), its keys stand in the
+-- order of the remainders, and the cents that it hands out are those left over.
+-- Assumes nothing.
+use mathlib.Core.Path.{_≡_, refl, sym, ap, ap₂, _∙_, subst}
+use mathlib.Core.Logic.{_⊎_, inl, inr, ⊎-elim, _≢_}
+use mathlib.Core.Bool.{Bool, true, false, _&&_, _||_}
+use mathlib.Core.List.{List}
+use Prim.Native.Nat.{ℕ, _+_, _-_, _*_, _/_, _%_, _≤_, _<_, min}
+use native.Mathlib.Nat.{zero-mul, zero-div, zero-mod, le-of-eq, le-refl, le-trans, min-eq-left}
+use native.Mathlib.Omega.{arith}
+use lib.Dec.{ltb, eqb}
+use lib.ListN.{length, take, length-take}
+use lib.Seq.{getD-take, length-take-le}
+use borrow.Author.Tests.{lt-ltb, le-ltb, eq-eqb, ne-eqb, ltb-false, eqb-false}
+use Rattle.lists.specs.Sums.{sumTo, at, total, bit, count, rank, largestFirst}
+use Rattle.lists.specs.Entries.{put}
+use Rattle.lists.proofs.Sums.{sum-eq}
+use Rattle.lists.proofs.Entries.{length-put, at-put, put-eq, put-over}
+use Rattle.lists.proofs.Ranks.{lt-or-le, larger-first, lower-first, smaller-later, higher-later}
+use Rattle.answer.proofs.Turns.{look-none, zero-or-not}
+use Rattle.division.specs.Limits.{potLimit, weightLimit, mostWeights, sizeRefusal}
+use Rattle.division.specs.Shares.{quotient, remainder, leftover, comesBefore, share}
+use Rattle.division.proofs.Bounds.{cents-fit}
+use Rattle.division.specs.Steps.{Base, CutDown, centsOf, keyOf, larger, handed}
+
+-- what is known of a pot and a sum of weights that are not refused
+pub record Sized (pot w : ℕ) : Type 0 where
+  pub pot-fits : pot ≤ potLimit
+  pub sum-fits : w ≤ weightLimit
+  pub zero-sum : w ≡ 0 → pot ≡ 0
+
+neither : (s t : Bool) → (s || t) ≡ false → (s ≡ false) × (t ≡ false)
+neither true t e = (e, absurd (mathlib.Core.Bool.true≢false e))
+neither false t e = (refl, e)
+
+not-both : (s t : Bool) → (s && t) ≡ false → t ≡ true → s ≡ false
+not-both true t e q = absurd (mathlib.Core.Bool.true≢false (sym q ∙ e))
+not-both false t e q = refl
+
+pub sized : (pot w : ℕ) → sizeRefusal pot w ≡ 0 → Sized pot w
+unfolding sizeRefusal
+sized pot w e =
+    let big = look-none (ltb potLimit pot || ltb weightLimit w) 8 _ (λ q. omega arith) e in
+    let limits = neither (ltb potLimit pot) (ltb weightLimit w) (big .0) in
+    let baseless = look-none (ltb 0 pot && eqb w 0) 9 0 (λ q. omega arith) (big .1) in
+    record {
+      pot-fits = ltb-false potLimit pot (limits .0);
+      sum-fits = ltb-false weightLimit w (limits .1);
+      zero-sum = λ z. let none : pot ≤ 0 = ltb-false 0 pot (not-both (ltb 0 pot) (eqb w 0) (baseless .0) (eq-eqb w 0 z)) in omega arith
+    }
+
+-- the whole that the code divides by is the sum, or 1 where the sum is 0 and so the pot is
+module _ (pot w whole : ℕ) (size : Sized pot w) (is-whole : whole ≡ w + bit (eqb w 0)) where
+  same-or-none : (whole ≡ w) ⊎ (pot ≡ 0)
+  same-or-none =
+      ⊎-elim
+      (λ (z : w ≡ 0). inr (size .zero-sum z))
+      (λ (d : w ≢ 0). inl (is-whole ∙ ap (λ t. w + bit t) (ne-eqb w 0 d) ∙ (let e : w + 0 ≡ w = omega arith in e)))
+      (zero-or-not w)
+
+  pub same-quotient : (weight : ℕ) → pot * weight / whole ≡ pot * weight / w
+  same-quotient weight =
+      ⊎-elim
+      (λ e. ap (λ k. pot * weight / k) e)
+      (λ (z : pot ≡ 0). simp (z, zero-mul, zero-div))
+      same-or-none
+
+  pub same-remainder : (weight : ℕ) → pot * weight % whole ≡ pot * weight % w
+  same-remainder weight =
+      ⊎-elim
+      (λ e. ap (λ k. pot * weight % k) e)
+      (λ (z : pot ≡ 0). simp (z, zero-mul, zero-mod))
+      same-or-none
+
+pub base-of : (pot : ℕ) (weights : List ℕ) (whole : ℕ) → Sized pot (total weights) → whole ≡ total weights + bit (eqb (total weights) 0)
+  → Base pot weights whole
+base-of pot weights whole size e =
+    ⊎-elim
+    (λ (z : total weights ≡ 0).
+      let one : whole ≡ total weights + 1 = e ∙ ap (λ t. total weights + bit t) (eq-eqb (total weights) 0 z) in
+      record { pot-fits = size .pot-fits; positive = omega arith; whole-fits = omega arith; adds-up = omega arith })
+    (λ (d : total weights ≢ 0).
+      let same : whole ≡ total weights + 0 = e ∙ ap (λ t. total weights + bit t) (ne-eqb (total weights) 0 d) in
+      record { pot-fits = size .pot-fits; positive = omega arith; whole-fits = omega (arith, size .sum-fits); adds-up = omega arith })
+    (zero-or-not (total weights))
+
+-- keys are ordered as their remainders, lower position first among equals
+pub keyed : (f : ℕ → ℕ) (i j : ℕ) → i < 64 → j < 64 → ltb (f i * 64 + (63 - i)) (f j * 64 + (63 - j)) ≡ largestFirst f j i
+keyed f i j bi bj =
+    ⊎-elim
+    (λ (l : f i < f j). lt-ltb (f i * 64 + (63 - i)) (f j * 64 + (63 - j)) (omega arith) ∙ sym (larger-first f j i l))
+    (λ (g : f j ≤ f i).
+      ⊎-elim
+      (λ (l : f j < f i). le-ltb (f i * 64 + (63 - i)) (f j * 64 + (63 - j)) (omega arith) ∙ sym (smaller-later f j i l))
+      (λ (h : f i ≤ f j).
+        ⊎-elim
+        (λ (l : j < i). lt-ltb (f i * 64 + (63 - i)) (f j * 64 + (63 - j)) (omega arith) ∙ sym (lower-first f j i (omega arith) l))
+        (λ (l : i ≤ j). le-ltb (f i * 64 + (63 - i)) (f j * 64 + (63 - j)) (omega arith) ∙ sym (higher-later f j i (omega arith) l))
+        (lt-or-le j i))
+      (lt-or-le (f j) (f i)))
+    (lt-or-le (f i) (f j))
+
+module _
+  (pot : ℕ) (weights : List ℕ) (whole : ℕ) (out out′ keys keys′ : List ℕ) (given : ℕ)
+  (size : Sized pot (total weights)) (is-whole : whole ≡ total weights + bit (eqb (total weights) 0))
+  (few : length weights ≤ mostWeights) (room : length weights ≤ length out) (key-room : length weights ≤ length keys)
+  (cut : CutDown pot weights whole out out′ keys keys′ given)
+  where
+  cents-is : (i : ℕ) → centsOf pot weights whole i ≡ quotient pot weights i
+  unfolding quotient
+  cents-is i = same-quotient pot (total weights) whole size is-whole (at weights i)
+
+  rest-is : (i : ℕ) → pot * at weights i % whole ≡ remainder pot weights i
+  unfolding remainder
+  rest-is i = same-remainder pot (total weights) whole size is-whole (at weights i)
+
+  pub left-is : pot - given ≡ leftover pot weights
+  unfolding leftover
+  left-is =
+      ap (λ k. pot - k)
+      (cut .given ∙ sum-eq (length weights) (centsOf pot weights whole) (quotient pot weights) (λ i b. cents-is i))
+
+  pub keys-long : length keys′ ≡ length keys
+  keys-long = ap length (cut .placed) ∙ length-put (length weights) (keyOf pot weights whole) keys
+
+  pub placed-long : length (take (length weights) keys′) ≡ length weights
+  placed-long = length-take-le (length weights) keys′ (rw keys-long key-room)
+
+  key-at : (i : ℕ) → i < length weights → at (take (length weights) keys′) i ≡ remainder pot weights i * 64 + (63 - i)
+  key-at i b =
+      getD-take (length weights) keys′ i 0 b
+      ∙ ap (λ l. at l i) (cut .placed)
+      ∙ at-put (length weights) (keyOf pot weights whole) keys key-room i b
+      ∙ ap (λ r. r * 64 + (63 - i)) (rest-is i)
+
+  standing-is : (i : ℕ) → i < length weights
+    → larger (take (length weights) keys′) (at (take (length weights) keys′) i) ≡ rank (length weights) (comesBefore pot weights) i
+  unfolding comesBefore
+  standing-is i b =
+      ap (λ n. sumTo n (λ j. bit (ltb (at (take (length weights) keys′) i) (at (take (length weights) keys′) j)))) placed-long
+      ∙ sum-eq (length weights)
+        (λ j. bit (ltb (at (take (length weights) keys′) i) (at (take (length weights) keys′) j)))
+        (λ j. bit (largestFirst (remainder pot weights) j i))
+        (λ j h.
+          ap₂ (λ x y. bit (ltb x y)) (key-at i b) (key-at j h)
+          ∙ ap bit (keyed (remainder pot weights) i j (le-trans b few) (le-trans h few)))
+
+  pub cents-at : (i : ℕ) → i < length weights → at out′ i ≡ quotient pot weights i
+  cents-at i b =
+      ap (λ l. at l i) (cut .cents) ∙ at-put (length weights) (centsOf pot weights whole) out room i b ∙ cents-is i
+
+  pub out-long : length out′ ≡ length out
+  out-long = ap length (cut .cents) ∙ length-put (length weights) (centsOf pot weights whole) out
+
+  -- what `hand_out` asks of the words that it is lent
+  pub ready : (length (take (length weights) keys′) ≤ length out′) × ((i : ℕ) → i < length (take (length weights) keys′) → at out′ i ≤ potLimit)
+  ready =
+      (rw (placed-long, out-long) room
+      , λ i h.
+        let b : i < length weights = rw placed-long at h in
+        le-trans
+        (le-of-eq (ap (λ l. at l i) (cut .cents) ∙ at-put (length weights) (centsOf pot weights whole) out room i b))
+        (le-trans (cents-fit pot weights whole (base-of pot weights whole size is-whole) i b) (size .pot-fits)))
+
+  handed-is : (i : ℕ) → i < length weights
+    → handed (pot - given) (take (length weights) keys′) out′ i ≡ share pot weights i
+  unfolding share
+  handed-is i b = ap₂ _+_ (cents-at i b) (ap₂ (λ x y. bit (ltb x y)) (standing-is i b) left-is)
+
+  pub shared-out : (out″ : List ℕ)
+    → out″ ≡ put (length (take (length weights) keys′)) (handed (pot - given) (take (length weights) keys′) out′) out′
+    → out″ ≡ put (length weights) (share pot weights) out
+  shared-out out″ e =
+      e
+      ∙ ap (λ n. put n (handed (pot - given) (take (length weights) keys′) out′) out′) placed-long
+      ∙ put-eq (length weights) (handed (pot - given) (take (length weights) keys′) out′) (share pot weights) out′ handed-is
+      ∙ ap (put (length weights) (share pot weights)) (cut .cents)
+      ∙ put-over (length weights) (centsOf pot weights whole) (share pot weights) out room

@@ -1,0 +1,5 @@
+pub mod Doubling
+pub mod Bits
+pub mod Bounds
+pub mod Handed
+pub mod Refusals

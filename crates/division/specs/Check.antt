@@ -1,0 +1,35 @@
+-- The check of a division that anyone hands in.
+-- Assumes nothing.
+use Prim.Native.Nat.{ℕ}
+use mathlib.Core.Bool.{Bool, _&&_, cond}
+use mathlib.Core.List.{List}
+use lib.Dec.{eqb}
+use Rattle.lists.specs.Sums.{total}
+use Rattle.closeness.specs.Closeness.{level}
+use Rattle.division.specs.Limits.{checkRefusal}
+use Rattle.division.specs.declared.Verdict.{Verdict}
+use Rattle.division.specs.declared.Verdict.the-variants.{Yes, No, Refused}
+
+-- the amounts add up to the pot and are level: no amount stands more than a cent higher over its exact share than another
+-- (that these are the closest lists, whatever the sum of squares is taken over, is the theorem of `closeness`)
+unfoldable pub passes : ℕ → List ℕ → List ℕ → Bool
+passes pot weights amounts = eqb (total amounts) pot && level pot weights amounts
+
+-- what the check answers: "A refused check says neither yes nor no"
+unfoldable pub verdict : ℕ → List ℕ → List ℕ → Verdict
+verdict pot weights amounts =
+    cond (eqb (checkRefusal pot weights amounts) 0)
+    (cond (passes pot weights amounts) Yes No)
+    (Refused (checkRefusal pot weights amounts))
+
+-- the paper's number of each case, 0 where nothing is refused
+abbrev pub numberOf : Verdict → ℕ
+numberOf Yes = 0
+numberOf No = 0
+numberOf (Refused number) = number
+
+-- the value of each case: 1 for yes, 0 for no and where the check is refused
+abbrev pub valueOf : Verdict → ℕ
+valueOf Yes = 1
+valueOf No = 0
+valueOf (Refused number) = 0

@@ -1,0 +1,28 @@
+-- The starred figures hold: antt computes each.
+-- Assumes nothing.
+use mathlib.Core.Path.{refl}
+use Rattle.lists.specs.Sums.{sumTo, every, largestFirst}
+use Rattle.lists.specs.Entries.{listed}
+use Rattle.closeness.specs.Closeness.{level}
+use Rattle.division.specs.Limits.{sizeRefusal, divideRefusal, checkRefusal}
+use Rattle.division.specs.Shares.{quotient, remainder, leftover, comesBefore, share, shares}
+use Rattle.division.specs.Check.{passes, verdict}
+use Rattle.figures.specs.Starred.{Starred}
+
+pub starred : Starred
+unfolding sumTo every largestFirst listed level sizeRefusal divideRefusal checkRefusal quotient remainder leftover comesBefore share shares passes verdict
+starred =
+    record {
+      D1 = refl;
+      D2 = refl;
+      D3 = refl;
+      D4 = refl;
+      D5 = refl;
+      D6 = refl;
+      D6-accepted = refl;
+      D7 = refl;
+      D7-baseless = refl;
+      C1 = refl;
+      C1-other = refl;
+      C2 = refl
+    }

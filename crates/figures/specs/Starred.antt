@@ -1,0 +1,29 @@
+-- The starred figures of the paper, one row each: what the definitions must give.
+-- Assumes nothing.
+use mathlib.Core.Path.{_≡_}
+use mathlib.Core.List.{List, [], _∷_}
+use Prim.Native.Nat.{ℕ}
+use Rattle.answer.specs.Numbers.{BASE}
+use Rattle.division.specs.Limits.{divideRefusal}
+use Rattle.division.specs.Shares.{shares}
+use Rattle.division.specs.Check.{verdict}
+use Rattle.division.specs.declared.Verdict.the-variants.{Yes, No}
+
+pub record Starred : Type 0 where
+  -- 100 by 1, 1, 1 and by 1, 2, 4
+  pub D1 : shares 100 (1 ∷ 1 ∷ 1 ∷ []) ≡ 34 ∷ 33 ∷ 33 ∷ []
+  pub D2 : shares 100 (1 ∷ 2 ∷ 4 ∷ []) ≡ 14 ∷ 29 ∷ 57 ∷ []
+  -- 2 by 1, 1, 1, 1: the tie goes to the lower positions
+  pub D3 : shares 2 (1 ∷ 1 ∷ 1 ∷ 1 ∷ []) ≡ 1 ∷ 1 ∷ 0 ∷ 0 ∷ []
+  pub D4 : shares 5 (0 ∷ 7 ∷ []) ≡ 0 ∷ 5 ∷ []
+  -- 1 by 0, 0 has no base; 0 by 0, 0 is divided
+  pub D5 : divideRefusal 1 (0 ∷ 0 ∷ []) 2 ≡ BASE
+  pub D6 : shares 0 (0 ∷ 0 ∷ []) ≡ 0 ∷ 0 ∷ []
+  pub D6-accepted : divideRefusal 0 (0 ∷ 0 ∷ []) 2 ≡ 0
+  -- 0 by nothing is accepted, 1 by nothing has no base
+  pub D7 : divideRefusal 0 [] 0 ≡ 0
+  pub D7-baseless : divideRefusal 1 [] 0 ≡ BASE
+  -- of 2 by 1, 1, 1, 1 any closest list passes, and no other
+  pub C1 : verdict 2 (1 ∷ 1 ∷ 1 ∷ 1 ∷ []) (0 ∷ 1 ∷ 0 ∷ 1 ∷ []) ≡ Yes
+  pub C1-other : verdict 2 (1 ∷ 1 ∷ 1 ∷ 1 ∷ []) (2 ∷ 0 ∷ 0 ∷ 0 ∷ []) ≡ No
+  pub C2 : verdict 100 (1 ∷ 2 ∷ 4 ∷ []) (15 ∷ 28 ∷ 57 ∷ []) ≡ No

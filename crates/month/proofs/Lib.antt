@@ -1,0 +1,4 @@
+pub mod Months
+pub mod Quantities
+pub mod Promises
+pub mod Unique
