@@ -19,7 +19,7 @@ use Rattle.lists.proofs.Entries.{length-put, at-put, put-eq, put-over}
 use Rattle.lists.proofs.Ranks.{lt-or-le, larger-first, lower-first, smaller-later, higher-later}
 use Rattle.answer.proofs.Turns.{look-none, zero-or-not}
 use Rattle.division.specs.Limits.{potLimit, weightLimit, mostWeights, sizeRefusal}
-use Rattle.division.specs.Shares.{quotient, remainder, leftover, comesBefore, share}
+use Rattle.division.specs.Shares.{quotient, remainder, leftover, comesBefore, getsCent, share}
 use Rattle.division.proofs.Bounds.{cents-fit}
 use Rattle.division.specs.Steps.{Base, CutDown, centsOf, keyOf, larger, handed}
 
@@ -29,7 +29,7 @@ pub record Sized (pot w : ℕ) : Type 0 where
   pub sum-fits : w ≤ weightLimit
   pub zero-sum : w ≡ 0 → pot ≡ 0
 
-neither : (s t : Bool) → (s || t) ≡ false → (s ≡ false) × (t ≡ false)
+pub neither : (s t : Bool) → (s || t) ≡ false → (s ≡ false) × (t ≡ false)
 neither true t e = (e, absurd (mathlib.Core.Bool.true≢false e))
 neither false t e = (refl, e)
 
@@ -164,7 +164,7 @@ module _
 
   handed-is : (i : ℕ) → i < length weights
     → handed (pot - given) (take (length weights) keys′) out′ i ≡ share pot weights i
-  unfolding share
+  unfolding share getsCent
   handed-is i b = ap₂ _+_ (cents-at i b) (ap₂ (λ x y. bit (ltb x y)) (standing-is i b) left-is)
 
   pub shared-out : (out″ : List ℕ)

@@ -5,3 +5,9 @@ pub mod Handed
 pub mod Refusals
 pub mod Heights
 pub mod Verdicts
+pub mod Parts
+pub mod Members
+pub mod Laws
+pub mod Unique
+pub mod Passing
+pub mod Promises

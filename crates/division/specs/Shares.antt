@@ -28,9 +28,11 @@ unfoldable pub comesBefore : ℕ → List ℕ → ℕ → ℕ → Bool
 comesBefore pot weights = largestFirst (remainder pot weights)
 
 -- ".. go one each to": position i gets one where fewer positions come before it than there are cents left over
+unfoldable pub getsCent : ℕ → List ℕ → ℕ → Bool
+getsCent pot weights i = ltb (rank (length weights) (comesBefore pot weights) i) (leftover pot weights)
+
 unfoldable pub share : ℕ → List ℕ → ℕ → ℕ
-share pot weights i =
-    quotient pot weights i + bit (ltb (rank (length weights) (comesBefore pot weights) i) (leftover pot weights))
+share pot weights i = quotient pot weights i + bit (getsCent pot weights i)
 
 unfoldable pub shares : ℕ → List ℕ → List ℕ
 shares pot weights = listed (length weights) (share pot weights)

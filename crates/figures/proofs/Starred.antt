@@ -5,12 +5,12 @@ use Rattle.lists.specs.Sums.{sumTo, every, largestFirst}
 use Rattle.lists.specs.Entries.{listed}
 use Rattle.closeness.specs.Closeness.{level}
 use Rattle.division.specs.Limits.{sizeRefusal, divideRefusal, checkRefusal}
-use Rattle.division.specs.Shares.{quotient, remainder, leftover, comesBefore, share, shares}
+use Rattle.division.specs.Shares.{quotient, remainder, leftover, comesBefore, getsCent, share, shares}
 use Rattle.division.specs.Check.{passes, verdict}
 use Rattle.figures.specs.Starred.{Starred}
 
 pub starred : Starred
-unfolding sumTo every largestFirst listed level sizeRefusal divideRefusal checkRefusal quotient remainder leftover comesBefore share shares passes verdict
+unfolding sumTo every largestFirst listed level sizeRefusal divideRefusal checkRefusal quotient remainder leftover comesBefore getsCent share shares passes verdict
 starred =
     record {
       D1 = refl;

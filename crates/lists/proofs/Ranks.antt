@@ -33,7 +33,7 @@ same-test false t h k = sym (k refl)
 
 module _ (before : ℕ → ℕ → Bool) (o : Ordered before) where
   -- whoever stands before i, which stands before j, stands before j
-  rank-less : (n i j : ℕ) → i < n → before i j ≡ true → rank n before i < rank n before j
+  pub rank-less : (n i j : ℕ) → i < n → before i j ≡ true → rank n before i < rank n before j
   rank-less n i j h b =
       count-more n (λ k. before k i) (λ k. before k j) (λ k l e. o .transitive k i j e b) i h (o .irreflexive i) b
 

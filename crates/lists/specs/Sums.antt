@@ -16,6 +16,11 @@ abbrev pub bit : Bool → ℕ
 bit true = 1
 bit false = 0
 
+-- a number where a test holds, else 0: a sum with a condition is a sum of these
+abbrev pub when : Bool → ℕ → ℕ
+when true x = x
+when false x = 0
+
 -- at how many positions below n a test holds
 abbrev pub count : ℕ → (ℕ → Bool) → ℕ
 count n t = sumTo n (λ i. bit (t i))

@@ -1,0 +1,108 @@
+-- What the crates above may cite of a division, and nothing else: how many shares there are, what they add up to, that no
+-- weight gets nothing, and that dividing among some is dividing among those alone.
+-- Assumes nothing.
+use mathlib.Core.Path.{_≡_, refl, sym, ap, ap₂, _∙_, subst}
+use mathlib.Core.Logic.{_⊎_, inl, inr, ⊎-elim, _≢_}
+use mathlib.Core.Bool.{Bool, true, false}
+use mathlib.Core.List.{List}
+use Prim.Native.Nat.{ℕ, _+_, _*_, _/_, _%_, _≤_, _<_}
+use native.Mathlib.Nat.{le-trans, zero-mul, zero-div, zero-mod, zero-sub}
+use native.Mathlib.Omega.{arith}
+use lib.Dec.{ltb}
+use lib.ListN.{length, List·getD-eq-default}
+use borrow.Author.Tests.{le-ltb}
+use Rattle.lists.specs.Sums.{sumTo, at, total, bit, count, rank}
+use Rattle.lists.specs.Entries.{kept}
+use Rattle.lists.proofs.Sums.{le-sum, sum-zero}
+use Rattle.lists.proofs.Ranks.{lt-or-le}
+use Rattle.lists.proofs.Entries.{length-listed, at-listed, total-listed}
+use Rattle.lists.proofs.Members.{length-kept, place-below}
+use Rattle.answer.proofs.Turns.{zero-or-not}
+use Rattle.division.specs.Limits.{mostWeights, potLimit, weightLimit, sizeRefusal}
+use Rattle.division.specs.Shares.{quotient, leftover, comesBefore, getsCent, share, shares}
+use Rattle.division.proofs.Handed.{Sized, sized}
+use Rattle.division.proofs.Parts.{share-is, shares-sum, nothing-cut}
+use Rattle.division.proofs.Members.{no-quotient, no-remainder, share-alone, total-kept}
+
+-- there are as many shares as weights
+pub length-shares : (pot : ℕ) (weights : List ℕ) → length (shares pot weights) ≡ length weights
+unfolding shares
+length-shares pot weights = length-listed (length weights) (share pot weights)
+
+-- each entry of the shares is that position's share
+pub at-shares : (pot : ℕ) (weights : List ℕ) (i : ℕ) → i < length weights → at (shares pot weights) i ≡ share pot weights i
+unfolding shares
+at-shares pot weights i b = at-listed (length weights) (share pot weights) i b
+
+-- of no pot every share is 0, whatever the weights
+no-pot : (weights : List ℕ) (i : ℕ) → share 0 weights i ≡ 0
+unfolding share quotient getsCent leftover
+no-pot weights i =
+    ap₂ (λ q t. q + bit t)
+    (ap (λ n. n / total weights) (zero-mul (at weights i)) ∙ zero-div (total weights))
+    (ap (λ k. ltb (rank (length weights) (comesBefore 0 weights) i) k) (zero-sub (sumTo (length weights) (quotient 0 weights)))
+    ∙ le-ltb (rank (length weights) (comesBefore 0 weights) i) 0 (omega arith))
+
+pub share-of-none : (pot : ℕ) (weights : List ℕ) (i : ℕ) → pot ≡ 0 → share pot weights i ≡ 0
+share-of-none pot weights i z = ap (λ p. share p weights i) z ∙ no-pot weights i
+
+-- the shares add up to the pot, for weights that add up to more than zero, or no pot
+pub shares-add-up : (pot : ℕ) (weights : List ℕ) → (total weights ≡ 0 → pot ≡ 0) → total (shares pot weights) ≡ pot
+unfolding shares
+shares-add-up pot weights base =
+    total-listed (length weights) (share pot weights)
+    ∙ ⊎-elim
+      (λ (z : total weights ≡ 0).
+        sum-zero (length weights) (share pot weights) (λ i b. share-of-none pot weights i (base z)) ∙ sym (base z))
+      (λ (d : total weights ≢ 0). shares-sum pot weights (omega (arith, d)))
+      (zero-or-not (total weights))
+
+-- no share is above the pot
+pub share-within : (pot : ℕ) (weights : List ℕ) → (total weights ≡ 0 → pot ≡ 0) → (i : ℕ) → at (shares pot weights) i ≤ pot
+share-within pot weights base i =
+    ⊎-elim
+    (λ (b : i < length (shares pot weights)).
+      subst (λ p. at (shares pot weights) i ≤ p) (shares-add-up pot weights base)
+      (le-sum (length (shares pot weights)) (at (shares pot weights)) i b))
+    (λ (o : length (shares pot weights) ≤ i).
+      let none : at (shares pot weights) i ≡ 0 = List·getD-eq-default (shares pot weights) 0 o in omega arith)
+    (lt-or-le i (length (shares pot weights)))
+
+-- a weight of zero gets nothing
+pub no-weight-no-share : (pot : ℕ) (weights : List ℕ) → (total weights ≡ 0 → pot ≡ 0)
+  → (i : ℕ) → i < length weights → at weights i ≡ 0 → at (shares pot weights) i ≡ 0
+no-weight-no-share pot weights base i b z =
+    at-shares pot weights i b
+    ∙ ⊎-elim
+      (λ (e : total weights ≡ 0). share-of-none pot weights i (base e))
+      (λ (d : total weights ≢ 0).
+        share-is pot weights i
+        ∙ ap₂ (λ q t. q + bit t) (no-quotient pot weights i z)
+          (nothing-cut pot weights (omega (arith, d)) i (no-remainder pot weights i z)))
+      (zero-or-not (total weights))
+
+-- weights of zero put in change nothing: a member's share is what it has where the members are divided among alone, at its
+-- place among them
+pub shares-among : (pot : ℕ) (weights : List ℕ) (member : ℕ → Bool) → (total weights ≡ 0 → pot ≡ 0)
+  → ((i : ℕ) → i < length weights → member i ≡ false → at weights i ≡ 0)
+  → (i : ℕ) → i < length weights → member i ≡ true
+  → at (shares pot weights) i ≡ at (shares pot (kept (length weights) member (at weights))) (count i member)
+shares-among pot weights member base others i b m =
+    let alone = kept (length weights) member (at weights) in
+    let within : count i member < length alone =
+          subst (λ n. count i member < n) (sym (length-kept (length weights) member (at weights))) (place-below (length weights) member i b m) in
+    at-shares pot weights i b
+    ∙ ⊎-elim
+      (λ (z : total weights ≡ 0). share-of-none pot weights i (base z) ∙ sym (share-of-none pot alone (count i member) (base z)))
+      (λ (d : total weights ≢ 0). sym (share-alone pot weights member others (omega (arith, d)) i b m))
+      (zero-or-not (total weights))
+    ∙ sym (at-shares pot alone (count i member) within)
+
+-- .. and the members' weights add up to the same
+pub total-among : (weights : List ℕ) (member : ℕ → Bool) → ((i : ℕ) → i < length weights → member i ≡ false → at weights i ≡ 0)
+  → total (kept (length weights) member (at weights)) ≡ total weights
+total-among weights member others = total-kept 0 weights member others
+
+-- what is known of sizes that are not refused, and the sizes that are not
+pub size-accepted : (pot w : ℕ) → sizeRefusal pot w ≡ 0 → (pot ≤ potLimit) × (w ≤ weightLimit) × (w ≡ 0 → pot ≡ 0)
+size-accepted pot w e = let s = sized pot w e in (s .pot-fits, s .sum-fits, s .zero-sum)
