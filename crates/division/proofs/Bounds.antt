@@ -7,9 +7,7 @@ use native.Mathlib.Omega.{arith}
 use mathlib.Core.List.{List}
 use lib.ListN.{length}
 use Rattle.lists.specs.Sums.{sumTo, at}
-use Rattle.lists.specs.Entries.{put}
 use Rattle.lists.proofs.Sums.{le-sum, sum-le, sum-const, sum-mul}
-use Rattle.lists.proofs.Entries.{length-put}
 use Rattle.division.specs.Limits.{potLimit}
 use Rattle.division.specs.Steps.{Base, centsOf}
 
@@ -44,6 +42,3 @@ module _ (pot : ℕ) (weights : List ℕ) (whole : ℕ) (base : Base pot weights
 
   pub rest-fits : (i : ℕ) → pot * at weights i % whole < whole
   rest-fits i = mod-lt (pot * at weights i) (base .positive)
-
-pub put-long : {l : List ℕ} (n : ℕ) (f : ℕ → ℕ) (l₀ : List ℕ) → l ≡ put n f l₀ → length l ≡ length l₀
-put-long n f l₀ e = ap length e ∙ length-put n f l₀

@@ -4,24 +4,29 @@
 use mathlib.Core.Path.{_≡_, refl, sym, ap, ap₂, _∙_, subst}
 use mathlib.Core.Logic.{_⊎_, inl, inr, ⊎-elim, _≢_}
 use mathlib.Core.Bool.{Bool, true, false}
-use mathlib.Core.List.{List}
-use Prim.Native.Nat.{ℕ, _+_, _*_, _/_, _%_, _≤_, _<_}
+use mathlib.Core.List.{List, _++_}
+use Prim.Native.Nat.{ℕ, _+_, _*_, _/_, _%_, _≤_, _<_, min}
 use native.Mathlib.Nat.{le-trans, zero-mul, zero-div, zero-mod, zero-sub}
 use native.Mathlib.Omega.{arith}
 use lib.Dec.{ltb}
-use lib.ListN.{length, List·getD-eq-default}
-use borrow.Author.Tests.{le-ltb}
+use lib.ListN.{length, drop, List·getD-eq-default}
+use borrow.Author.Tests.{le-ltb, lt-ltb, ltb-false, eq-eqb, ne-eqb}
 use Rattle.lists.specs.Sums.{sumTo, at, total, bit, count, rank}
 use Rattle.lists.specs.Entries.{kept}
 use Rattle.lists.proofs.Sums.{le-sum, sum-zero}
 use Rattle.lists.proofs.Ranks.{lt-or-le}
 use Rattle.lists.proofs.Entries.{length-listed, at-listed, total-listed}
 use Rattle.lists.proofs.Members.{length-kept, place-below}
-use Rattle.answer.proofs.Turns.{zero-or-not}
-use Rattle.division.specs.Limits.{mostWeights, potLimit, weightLimit, sizeRefusal}
-use Rattle.division.specs.Shares.{quotient, leftover, comesBefore, getsCent, share, shares}
+use Rattle.answer.specs.Numbers.{COUNT}
+use Rattle.answer.proofs.Turns.{zero-or-not, look-none}
+use Rattle.division.specs.Limits.{mostWeights, potLimit, weightLimit, sizeRefusal, divideRefusal}
+use Rattle.division.specs.Shares.{quotient, leftover, comesBefore, getsCent, share, shares, memory}
+use Rattle.division.specs.Check.{verdict}
+use Rattle.division.specs.declared.Verdict.the-variants.{Refused}
 use Rattle.division.proofs.Handed.{Sized, sized}
 use Rattle.division.proofs.Parts.{share-is, shares-sum, nothing-cut}
+use Rattle.division.proofs.Refusals as refusals
+use Rattle.division.proofs.Verdicts as verdicts
 use Rattle.division.proofs.Members.{no-quotient, no-remainder, share-alone, total-kept}
 
 -- there are as many shares as weights
@@ -106,3 +111,48 @@ total-among weights member others = total-kept 0 weights member others
 -- what is known of sizes that are not refused, and the sizes that are not
 pub size-accepted : (pot w : ℕ) → sizeRefusal pot w ≡ 0 → (pot ≤ potLimit) × (w ≤ weightLimit) × (w ≡ 0 → pot ≡ 0)
 size-accepted pot w e = let s = sized pot w e in (s .pot-fits, s .sum-fits, s .zero-sum)
+
+-- what is known of a division that is not refused
+pub divide-accepted : (pot : ℕ) (weights : List ℕ) (room : ℕ) → divideRefusal pot weights room ≡ 0
+  → (length weights ≤ mostWeights) × (length weights ≤ room) × (pot ≤ potLimit) × (total weights ≤ weightLimit) × (total weights ≡ 0 → pot ≡ 0)
+unfolding divideRefusal
+divide-accepted pot weights room e =
+    let many = look-none (ltb mostWeights (length weights)) 1 _ (λ q. omega arith) e in
+    let short = look-none (ltb room (length weights)) 2 _ (λ q. omega arith) (many .1) in
+    let size = size-accepted pot (total weights) (short .1) in
+    (ltb-false mostWeights (length weights) (many .0), ltb-false room (length weights) (short .0), size .0, size .1, size .2)
+
+-- more than 64 weights are COUNT, and of the room only as much counts as 64 weights can want
+pub many-weights : (pot : ℕ) (weights : List ℕ) (room : ℕ) → mostWeights < length weights → divideRefusal pot weights room ≡ COUNT
+many-weights = refusals.too-many
+
+pub enough-room : (pot : ℕ) (weights : List ℕ) (room : ℕ) → length weights ≤ mostWeights
+  → divideRefusal pot weights (min room mostWeights) ≡ divideRefusal pot weights room
+unfolding divideRefusal
+enough-room pot weights room few =
+    ⊎-elim
+    (λ (short : room < length weights).
+      rw (lt-ltb room (length weights) short, lt-ltb (min room mostWeights) (length weights) (omega arith)))
+    (λ (fits : length weights ≤ room).
+      rw (le-ltb room (length weights) fits, le-ltb (min room mostWeights) (length weights) (omega arith)))
+    (lt-or-le room (length weights))
+
+-- the lent words of an accepted division begin with the shares, and those of a refused one are as they were
+pub memory-accepted : (pot : ℕ) (weights out : List ℕ) → divideRefusal pot weights (length out) ≡ 0
+  → memory pot weights out ≡ shares pot weights ++ drop (length weights) out
+unfolding memory
+memory-accepted pot weights out e = rw (eq-eqb (divideRefusal pot weights (length out)) 0 e)
+
+pub memory-refused : (pot : ℕ) (weights out : List ℕ) → divideRefusal pot weights (length out) ≢ 0 → memory pot weights out ≡ out
+unfolding memory
+memory-refused pot weights out d = rw (ne-eqb (divideRefusal pot weights (length out)) 0 d)
+
+-- a check of more than 64 weights, or of another number of amounts than weights, is refused with COUNT
+pub check-many-weights : (pot : ℕ) (weights amounts : List ℕ) → mostWeights < length weights → verdict pot weights amounts ≡ Refused COUNT
+check-many-weights pot weights amounts h =
+    sym (verdicts.refused pot weights amounts COUNT (verdicts.too-many pot weights amounts h) (λ e. omega arith))
+
+pub check-unlike : (pot : ℕ) (weights amounts : List ℕ) → length weights ≤ mostWeights → length amounts ≢ length weights
+  → verdict pot weights amounts ≡ Refused COUNT
+check-unlike pot weights amounts few d =
+    sym (verdicts.refused pot weights amounts COUNT (verdicts.unlike pot weights amounts few d) (λ e. omega arith))

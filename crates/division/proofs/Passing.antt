@@ -43,13 +43,8 @@ fits-size pot w p q z =
 pub divide-accepts : (pot : ℕ) (weights : List ℕ) (room : ℕ)
   → (divideRefusal pot weights room ≡ 0)
     ↔ ((length weights ≤ mostWeights) × (length weights ≤ room) × (pot ≤ potLimit) × (total weights ≤ weightLimit) × (total weights ≡ 0 → pot ≡ 0))
-unfolding divideRefusal
 divide-accepts pot weights room =
-    ((λ e.
-      let many = look-none (ltb mostWeights (length weights)) 1 _ (λ q. omega arith) e in
-      let short = look-none (ltb room (length weights)) 2 _ (λ q. omega arith) (many .1) in
-      let size = laws.size-accepted pot (total weights) (short .1) in
-      (ltb-false mostWeights (length weights) (many .0), ltb-false room (length weights) (short .0), size .0, size .1, size .2))
+    (laws.divide-accepted pot weights room
     , λ g. refusals.by-size pot weights room (g .0) (g .1) ∙ fits-size pot (total weights) (g .2) (g .3) (g .4))
 
 pub check-accepts : (pot : ℕ) (weights amounts : List ℕ)

@@ -89,3 +89,7 @@ put-over n f g l h =
     ∙ ap (λ k. listed n g ++ drop n k) (put-listed n f l h)
     ∙ ap (λ k. listed n g ++ k) (drop-at (listed n f) (drop n l) n (length-listed n f))
     ∙ sym (put-listed n g l h)
+
+-- a list that was stored into keeps its length
+pub put-long : {l : List ℕ} (n : ℕ) (f : ℕ → ℕ) (l₀ : List ℕ) → l ≡ put n f l₀ → length l ≡ length l₀
+put-long n f l₀ e = ap length e ∙ length-put n f l₀

@@ -8,9 +8,9 @@ use borrow.Author.Needs.{needs}
 use Rattle.lists.specs.Sums.{sumTo, at}
 use Rattle.lists.specs.Entries.{put}
 use Rattle.lists.proofs.Sums.{sum-none, sum-suc}
-use Rattle.lists.proofs.Entries.{put-none, put-suc}
+use Rattle.lists.proofs.Entries.{put-long, put-none, put-suc}
 use Rattle.division.specs.Steps.{centsOf, keyOf}
-use Rattle.division.proofs.Bounds.{weight-fits, given-fits, cents-fit, rest-fits, put-long}
+use Rattle.division.proofs.Bounds.{weight-fits, given-fits, cents-fit, rest-fits}
 use Rattle.division.proofs.cents.cut_down.Statement.{statement}
 use Rattle.division.proofs.cents.cut_down.Tie as tie
 

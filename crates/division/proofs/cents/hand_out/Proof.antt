@@ -11,10 +11,9 @@ use borrow.Author.Needs.{needs}
 use Rattle.lists.specs.Sums.{at, bit}
 use Rattle.lists.specs.Entries.{put}
 use Rattle.lists.proofs.Sums.{bit-le}
-use Rattle.lists.proofs.Entries.{put-none, put-suc, put-ahead}
+use Rattle.lists.proofs.Entries.{put-long, put-none, put-suc, put-ahead}
 use Rattle.division.specs.Steps.{larger, handed}
 use Rattle.division.proofs.Bits.{bit-of}
-use Rattle.division.proofs.Bounds.{put-long}
 use Rattle.division.proofs.cents.hand_out.Statement.{statement}
 use Rattle.division.proofs.cents.hand_out.Tie as tie
 

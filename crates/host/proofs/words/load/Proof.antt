@@ -1,0 +1,80 @@
+-- `host::words::load` meets its contract: the numbers of the words passed are stored.
+-- Assumes nothing.
+use mathlib.Core.Path.{_≡_, refl, sym, ap, ap₂, _∙_}
+use Prim.Native.Nat.{ℕ, _≤_, _<_, _+_, _-_, _*_, _/_}
+use native.Mathlib.Omega.{arith}
+use lib.ListN.{length, set}
+use borrow.Author.Needs.{needs}
+use Rattle.lists.specs.Entries.{put}
+use Rattle.lists.proofs.Entries.{put-none, put-suc, put-long}
+use Rattle.host.specs.Words.{numberFrom}
+use Rattle.host.specs.Stores.{numberAt}
+use Rattle.host.proofs.words.load.Statement.{statement}
+use Rattle.host.proofs.words.load.Tie as tie
+
+abbrev Inv-loop : tie.InvT-loop
+Inv-loop bytes numbers₀ i₀ place₀ numbers i place =
+    (place ≡ 8 * i) × (place ≤ length bytes) × (numbers ≡ put i (numberAt bytes) numbers₀)
+
+abbrev μ-loop : tie.MeasureT-loop
+μ-loop bytes numbers₀ i₀ place₀ numbers i place = length bytes - place
+
+numbers-long : (c : tie.At-loop Inv-loop μ-loop) → length (c .loop .numbers) ≡ length (c .before .before .before .args .numbers .now)
+numbers-long c = put-long _ _ _ (c .loop .inv .2)
+
+loop-holds : tie.Need-loop-holds Inv-loop μ-loop
+loop-holds c =
+    (refl, omega arith, sym (put-none (numberAt (c .before .before .args .bytes .now)) (c .before .before .args .numbers .now)))
+
+load-one-requires : tie.Need-load-one-requires Inv-loop μ-loop
+load-one-requires c κs = omega (arith, c .before .before .before .before .pre .0)
+
+mul-numbers : tie.Need-mul-numbers Inv-loop μ-loop
+mul-numbers c = search needs
+
+slice-write-numbers : tie.Need-slice-write-numbers Inv-loop μ-loop
+slice-write-numbers c = omega (arith, numbers-long (c .before .before), c .before .before .before .before .before .pre .0)
+
+add-i : tie.Need-add-i Inv-loop μ-loop
+add-i c = search needs
+
+add-place : tie.Need-add-place Inv-loop μ-loop
+add-place c = omega (arith, c .before .before .before .before .before .pre .0)
+
+loop-less : tie.Need-loop-less Inv-loop μ-loop
+loop-less c = omega arith
+
+loop-again : tie.Need-loop-again Inv-loop μ-loop
+loop-again c =
+    let a = c .before .before .before .before .before .args in
+    let l = c .before .before .loop in
+    (omega arith
+    , omega (arith, c .before .before .before .before .before .pre .0)
+    , ap₂ (λ k v. set k (l .i) v) (l .inv .2) (c .load-one .ensures ∙ ap (numberFrom (a .bytes .now)) (l .inv .0))
+      ∙ sym (put-suc (l .i) (numberAt (a .bytes .now)) (a .numbers .now)))
+
+same-length : tie.Need-same-length Inv-loop μ-loop
+same-length c = numbers-long (c .before)
+
+returns : tie.Need-returns Inv-loop μ-loop
+returns c =
+    let a = c .before .before .before .before .args in
+    let all : c .before .loop .i ≡ length (a .bytes .now) / 8 = omega (arith, c .before .before .before .before .pre .0) in
+    c .before .loop .inv .2 ∙ ap (λ n. put n (numberAt (a .bytes .now)) (a .numbers .now)) all
+
+pub load-spec : {M : Type 1} → statement M
+load-spec =
+    tie.close
+    (tie.spec
+    Inv-loop
+    μ-loop
+    loop-holds
+    load-one-requires
+    mul-numbers
+    slice-write-numbers
+    add-i
+    add-place
+    loop-less
+    loop-again
+    same-length
+    returns)

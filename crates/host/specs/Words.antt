@@ -1,0 +1,26 @@
+-- Numbers in bytes: "eight bytes to a number, low byte first".
+-- Assumes nothing.
+use Prim.Native.Nat.{ℕ, _+_, _*_, _/_, _%_, _^_}
+use mathlib.Core.List.{List}
+use lib.ListN.{length}
+use Rattle.lists.specs.Sums.{sumTo, at}
+use Rattle.lists.specs.Entries.{listed}
+
+abbrev pub wordBytes : ℕ
+wordBytes = 8
+
+-- the number that eight bytes from a place on make
+unfoldable pub numberFrom : List ℕ → ℕ → ℕ
+numberFrom bytes place = sumTo wordBytes (λ k. at bytes (place + k) * 256 ^ k)
+
+-- all numbers of a slice of bytes
+unfoldable pub numbers : List ℕ → List ℕ
+numbers bytes = listed (length bytes / wordBytes) (λ i. numberFrom bytes (wordBytes * i))
+
+-- byte k of a number
+unfoldable pub byteOf : ℕ → ℕ → ℕ
+byteOf number k = number / 256 ^ k % 256
+
+-- the bytes of a list of numbers
+unfoldable pub bytes : List ℕ → List ℕ
+bytes ns = listed (wordBytes * length ns) (λ j. byteOf (at ns (j / wordBytes)) (j % wordBytes))
