@@ -14,7 +14,8 @@ use Rattle.division.specs.Limits.{potLimit, weightLimit}
 pub record CutOnce (number whole taken rest : ℕ) : Type 0 where
   pub adds-up : taken * whole + rest ≡ number
   pub once : taken ≤ 1
-  pub below : rest < whole
+  pub below : number < whole + whole → rest < whole
+  pub below-twice : number < whole + whole + whole → rest < whole + whole
 
 -- a pot and weights that may be divided by a whole
 pub record Base (pot : ℕ) (weights : List ℕ) (whole : ℕ) : Type 0 where

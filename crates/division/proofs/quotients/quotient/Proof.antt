@@ -2,7 +2,7 @@
 -- Assumes nothing.
 use mathlib.Core.Path.{_≡_, refl, sym, ap, _∙_}
 use Prim.Native.Nat.{ℕ, _≤_, _<_, _+_, _*_, _/_, _%_, _-_, _^_}
-use native.Mathlib.Nat.{div-one, zero-mul}
+use native.Mathlib.Nat.{div-one, mul-le-mul}
 use native.Mathlib.Omega.{arith}
 use borrow.Author.Needs.{needs}
 use lib.Count.{leadingZeros, leading-le}
@@ -10,10 +10,6 @@ use lib.Pow.{shr-le}
 use Rattle.division.proofs.Doubling.{one-digit, no-digits, doubled, within, quotient-is, remainder-is}
 use Rattle.division.proofs.quotients.quotient.Statement.{statement}
 use Rattle.division.proofs.quotients.quotient.Tie as tie
-use Rattle.division.proofs.quotients.quotient.Reads as reads
-use Rattle.division.proofs.quotients.quotient.Lts as lts
-use Rattle.division.proofs.quotients.add_weight.Reads as add-weight-reads
-use Rattle.division.proofs.quotients.cut_once.Reads as cut-once-reads
 
 abbrev Inv-loop : tie.InvT-loop
 Inv-loop pot weight whole cents₀ rest₀ left₀ cents rest left =
@@ -27,6 +23,16 @@ small : (c : tie.At-loop Inv-loop μ-loop) → c .loop .cents ≤ c .before .arg
 small c =
     within (c .loop .cents) (c .before .args .whole) (c .loop .rest) (c .before .args .pot / 2 ^ c .loop .left) (c .before .args .weight)
     (c .loop .inv .1) (c .before .args .pot) (shr-le (c .before .args .pot) (c .loop .left)) (c .before .pre .1) (c .before .pre .2)
+
+-- the weight comes on top once at most
+digit-weight : (c : tie.In-loop Inv-loop μ-loop)
+  → c .before .before .args .pot / 2 ^ (c .before .loop .left - 1) % 2 * c .before .before .args .weight ≤ c .before .before .args .whole
+digit-weight c =
+    let start = c .before .before in
+    let digit : start .args .pot / 2 ^ (c .before .loop .left - 1) % 2 ≤ 1 = omega arith in
+    let most : start .args .pot / 2 ^ (c .before .loop .left - 1) % 2 * start .args .weight ≤ 1 * start .args .whole =
+          mul-le-mul digit (start .pre .1) in
+    omega arith
 
 sub-left : tie.Need-sub-left Inv-loop μ-loop
 sub-left c = leading-le 64 (c .args .pot)
@@ -48,11 +54,17 @@ shr-digit c = search needs
 mul-cut-once : tie.Need-mul-cut-once Inv-loop μ-loop
 mul-cut-once c = search needs
 
-cut-once-requires : tie.Need-cut-once-requires Inv-loop μ-loop
-cut-once-requires c κs = search needs
+mul-cut-once-2 : tie.Need-mul-cut-once-2 Inv-loop μ-loop
+mul-cut-once-2 c = omega (arith, digit-weight c)
 
-add-weight-requires : tie.Need-add-weight-requires Inv-loop μ-loop
-add-weight-requires c κs = search needs
+add-cut-once : tie.Need-add-cut-once Inv-loop μ-loop
+add-cut-once c = omega (arith, digit-weight c)
+
+cut-once-requires : tie.Need-cut-once-requires Inv-loop μ-loop
+cut-once-requires c κs = omega (arith, digit-weight c)
+
+cut-once-requires-2 : tie.Need-cut-once-requires-2 Inv-loop μ-loop
+cut-once-requires-2 c κs = omega (arith, digit-weight (c .before), c .cut-once .ensures .adds-up)
 
 mul-cents : tie.Need-mul-cents Inv-loop μ-loop
 mul-cents c = omega (arith, small (c .before .before .before))
@@ -71,7 +83,7 @@ loop-again c =
     let start = c .before .before .before .before .before .before .args in
     let l = c .before .before .before .before .before .loop in
     let one = c .before .before .before .cut-once in
-    let two = c .before .before .add-weight in
+    let two = c .before .before .cut-once2 in
     let back : l .left - 1 + 1 ≡ l .left = omega arith in
     let next : start .pot / 2 ^ (l .left - 1) ≡ 2 * (start .pot / 2 ^ l .left) + start .pot / 2 ^ (l .left - 1) % 2 =
           one-digit (start .pot) (l .left - 1)
@@ -81,7 +93,9 @@ loop-again c =
       (start .pot / 2 ^ (l .left - 1) % 2) (start .pot / 2 ^ (l .left - 1))
       (one .result .taken) (one .result .rest) (two .result .taken) (two .result .rest)
       next (one .ensures) (two .ensures)
-    , two .ensures .below)
+    , two .ensures .below
+      (one .ensures .below-twice
+        (omega (arith, digit-weight (c .before .before .before .before), l .inv .2))))
 
 returns : tie.Need-returns Inv-loop μ-loop
 returns c =
@@ -106,8 +120,10 @@ quotient-spec =
     cast-digit
     shr-digit
     mul-cut-once
+    mul-cut-once-2
+    add-cut-once
     cut-once-requires
-    add-weight-requires
+    cut-once-requires-2
     mul-cents
     add-cents
     add-cents-2
