@@ -14,7 +14,7 @@ use lib.Seq.{getD-take, length-take-le}
 use borrow.Author.Tests.{lt-ltb, le-ltb, eq-eqb, ne-eqb, ltb-false, eqb-false}
 use Rattle.lists.specs.Sums.{sumTo, at, total, bit, count, rank, largestFirst}
 use Rattle.lists.specs.Entries.{put}
-use Rattle.lists.proofs.Sums.{sum-eq}
+use Rattle.lists.proofs.Sums.{sum-eq, neither}
 use Rattle.lists.proofs.Entries.{length-put, at-put, put-eq, put-over}
 use Rattle.lists.proofs.Ranks.{lt-or-le, larger-first, lower-first, smaller-later, higher-later}
 use Rattle.answer.proofs.Turns.{look-none, zero-or-not}
@@ -28,10 +28,6 @@ pub record Sized (pot w : ℕ) : Type 0 where
   pub pot-fits : pot ≤ potLimit
   pub sum-fits : w ≤ weightLimit
   pub zero-sum : w ≡ 0 → pot ≡ 0
-
-pub neither : (s t : Bool) → (s || t) ≡ false → (s ≡ false) × (t ≡ false)
-neither true t e = (e, absurd (mathlib.Core.Bool.true≢false e))
-neither false t e = (refl, e)
 
 not-both : (s t : Bool) → (s && t) ≡ false → t ≡ true → s ≡ false
 not-both true t e q = absurd (mathlib.Core.Bool.true≢false (sym q ∙ e))

@@ -11,7 +11,7 @@ use lib.Dec.{ltb, leb, eqb}
 use lib.ListN.{length, List·getD-eq-default}
 use borrow.Author.Tests.{le-ltb, lt-ltb, le-leb, ltb-true, ltb-false, eq-eqb, ne-eqb, eqb-true, eqb-false, not-false}
 use Rattle.lists.specs.Sums.{sumTo, at, total, bit, count, rank, every}
-use Rattle.lists.proofs.Sums.{le-sum, sum-zero, every-from}
+use Rattle.lists.proofs.Sums.{le-sum, sum-zero, every-from, neither}
 use Rattle.lists.proofs.Ranks.{lt-or-le, true-or-false, rank-less, larger-first, lower-first}
 use Rattle.answer.proofs.Turns.{look-none, zero-or-not}
 use Rattle.closeness.specs.Closeness.{apart, distance, Closest, level}
@@ -21,7 +21,6 @@ use Rattle.division.specs.Shares.{quotient, remainder, leftover, comesBe
 use Rattle.division.specs.Check.{passes, verdict}
 use Rattle.division.specs.declared.Verdict.{Verdict}
 use Rattle.division.specs.declared.Verdict.the-variants.{Yes, No, Refused}
-use Rattle.division.proofs.Handed.{neither}
 use Rattle.division.proofs.Laws as laws
 use Rattle.division.proofs.Parts.{exact, remainder-below, ordered, share-is, nothing-cut, larger-gets}
 use Rattle.division.proofs.Refusals as refusals

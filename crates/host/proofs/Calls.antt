@@ -3,14 +3,15 @@
 -- Assumes nothing.
 use mathlib.Core.Path.{_≡_, refl, sym, ap, ap₂, _∙_, subst}
 use mathlib.Core.Logic.{_≢_}
-use mathlib.Core.Bool.{Bool, true, false, cond, _||_, not, or-true}
+use mathlib.Core.Bool.{Bool, true, false, cond, not}
 use mathlib.Core.List.{List, _++_, append-assoc}
 use Prim.Native.Nat.{ℕ, _+_, _*_, _/_, _%_, _≤_, _<_, min}
 use native.Mathlib.Omega.{arith}
 use lib.Dec.{eqb}
 use lib.ListN.{length, take, drop}
 use lib.Seq.{take-append-le, take-at}
-use borrow.Author.Tests.{eq-eqb, ne-eqb}
+use borrow.Author.Tests.{eq-eqb, ne-eqb, eqb-true, not-false}
+use Rattle.lists.proofs.Sums.{neither}
 use Rattle.lists.specs.Entries.{put}
 use Rattle.division.specs.Limits.{mostWeights, divideRefusal}
 use Rattle.division.specs.Shares.{shares, memory, Divided}
@@ -19,19 +20,23 @@ use Rattle.division.specs.declared.Division.{Division}
 use Rattle.division.specs.declared.Verdict.{Verdict}
 use Rattle.division.specs.declared.Verdict.the-variants.{Yes, No, Refused}
 use Rattle.division.proofs.Laws as laws
-use Rattle.host.specs.Words.{numbers, bytes}
+use Rattle.host.specs.Words.{isUneven, numbers, bytes}
 use Rattle.host.specs.Stores.{byteAt, numberAt, WholeWords}
-use Rattle.host.specs.Calls.{isUneven, word, hostDivideRefusal, hostMemory, HostDivided, hostVerdict}
+use Rattle.host.specs.Calls.{word, hostDivideRefusal, hostMemory, HostDivided, hostVerdict}
 use Rattle.host.proofs.Digits.{length-numbers, stored-bytes}
 
-uneven-these : (these those : List ℕ) → length these % 8 ≢ 0 → isUneven these those ≡ true
-uneven-these these those d = rw (ne-eqb (length these % 8) 0 d)
-
-uneven-those : (these those : List ℕ) → length those % 8 ≢ 0 → isUneven these those ≡ true
-uneven-those these those d = ap (λ t. not (eqb (length these % 8) 0) || not t) (ne-eqb (length those % 8) 0 d) ∙ or-true (not (eqb (length these % 8) 0))
-
-even : (these those : List ℕ) → WholeWords these those → isUneven these those ≡ false
+-- slices of whole words are not uneven
+pub even : (these those : List ℕ) → WholeWords these those → isUneven (length these) (length those) ≡ false
 even these those w = rw (eq-eqb (length these % 8) 0 (w .these-whole), eq-eqb (length those % 8) 0 (w .those-whole))
+
+-- slices that are not uneven are whole words
+pub whole-words : (these those : List ℕ) → isUneven (length these) (length those) ≡ false → WholeWords these those
+whole-words these those e =
+    let both = neither (not (eqb (length these % 8) 0)) (not (eqb (length those % 8) 0)) e in
+    record {
+      these-whole = eqb-true _ _ (not-false _ (both .0));
+      those-whole = eqb-true _ _ (not-false _ (both .1))
+    }
 
 module _ (pot : ℕ) (weights amounts : List ℕ) where
   refusal-even : WholeWords weights amounts → hostDivideRefusal pot weights amounts ≡ divideRefusal pot (numbers weights) (length amounts / 8)
@@ -47,24 +52,20 @@ module _ (pot : ℕ) (weights amounts : List ℕ) where
         lent = rw (ne-eqb (hostDivideRefusal pot weights amounts) 0 (λ z. d (sym e ∙ z)))
       }
 
-  pub divide-uneven-these : length weights % 8 ≢ 0 → hostDivideRefusal pot weights amounts ≡ 1
+  pub divide-uneven : isUneven (length weights) (length amounts) ≡ true → hostDivideRefusal pot weights amounts ≡ 1
   unfolding hostDivideRefusal
-  divide-uneven-these d = ap (λ t. cond t 1 (divideRefusal pot (numbers weights) (length amounts / 8))) (uneven-these weights amounts d)
-
-  pub divide-uneven-those : length amounts % 8 ≢ 0 → hostDivideRefusal pot weights amounts ≡ 1
-  unfolding hostDivideRefusal
-  divide-uneven-those d = ap (λ t. cond t 1 (divideRefusal pot (numbers weights) (length amounts / 8))) (uneven-those weights amounts d)
+  divide-uneven e = ap (λ t. cond t 1 (divideRefusal pot (numbers weights) (length amounts / 8))) e
 
   pub divide-many : WholeWords weights amounts → mostWeights < length weights / 8 → hostDivideRefusal pot weights amounts ≡ 1
   divide-many w h = refusal-even w ∙ laws.many-weights pot (numbers weights) (length amounts / 8) (rw length-numbers h)
 
-  pub check-uneven-these : length weights % 8 ≢ 0 → 1 ≡ hostVerdict pot weights amounts
+  pub check-uneven : isUneven (length weights) (length amounts) ≡ true → 1 ≡ hostVerdict pot weights amounts
   unfolding hostVerdict
-  check-uneven-these d = sym (ap (λ t. cond t 1 (word (numberOf (verdict pot (numbers weights) (numbers amounts))) (valueOf (verdict pot (numbers weights) (numbers amounts))))) (uneven-these weights amounts d))
-
-  pub check-uneven-those : length amounts % 8 ≢ 0 → 1 ≡ hostVerdict pot weights amounts
-  unfolding hostVerdict
-  check-uneven-those d = sym (ap (λ t. cond t 1 (word (numberOf (verdict pot (numbers weights) (numbers amounts))) (valueOf (verdict pot (numbers weights) (numbers amounts))))) (uneven-those weights amounts d))
+  check-uneven e =
+      sym
+      (ap
+      (λ t. cond t 1 (word (numberOf (verdict pot (numbers weights) (numbers amounts))) (valueOf (verdict pot (numbers weights) (numbers amounts)))))
+      e)
 
   -- the check's answer in one word
   pub said : WholeWords weights amounts → (v : Verdict) → v ≡ verdict pot (numbers weights) (numbers amounts)

@@ -1,8 +1,8 @@
 -- What the phone app's calls answer and leave in the lent bytes.
 -- Assumes nothing.
 use mathlib.Core.Path.{_≡_}
-use Prim.Native.Nat.{ℕ, _+_, _*_, _/_, _%_}
-use mathlib.Core.Bool.{Bool, cond, _||_, not}
+use Prim.Native.Nat.{ℕ, _+_, _*_, _/_}
+use mathlib.Core.Bool.{cond}
 use mathlib.Core.List.{List, _++_}
 use lib.Dec.{eqb}
 use lib.ListN.{length, drop}
@@ -11,11 +11,7 @@ use Rattle.answer.specs.Turns.{look}
 use Rattle.division.specs.Limits.{divideRefusal}
 use Rattle.division.specs.Shares.{shares}
 use Rattle.division.specs.Check.{verdict, numberOf, valueOf}
-use Rattle.host.specs.Words.{wordBytes, numbers, bytes}
-
--- "a byte length that isn't a multiple of eight is COUNT"
-abbrev pub isUneven : List ℕ → List ℕ → Bool
-isUneven these those = not (eqb (length these % wordBytes) 0) || not (eqb (length those % wordBytes) 0)
+use Rattle.host.specs.Words.{wordBytes, isUneven, numbers, bytes}
 
 -- one word for an answer: the refusal's number in the low byte, the value above it
 abbrev pub word : ℕ → ℕ → ℕ
@@ -23,7 +19,7 @@ word number value = number + 256 * value
 
 unfoldable pub hostDivideRefusal : ℕ → List ℕ → List ℕ → ℕ
 hostDivideRefusal pot weights amounts =
-    look (isUneven weights amounts) COUNT (divideRefusal pot (numbers weights) (length amounts / wordBytes))
+    look (isUneven (length weights) (length amounts)) COUNT (divideRefusal pot (numbers weights) (length amounts / wordBytes))
 
 -- the lent bytes afterwards: on refusal as they were, else the shares' bytes and behind them the bytes that were there
 unfoldable pub hostMemory : ℕ → List ℕ → List ℕ → List ℕ
@@ -40,5 +36,5 @@ pub record HostDivided (pot : ℕ) (weights before after : List ℕ) (r : ℕ) :
 -- What `noketualo_check` answers.
 unfoldable pub hostVerdict : ℕ → List ℕ → List ℕ → ℕ
 hostVerdict pot weights amounts =
-    look (isUneven weights amounts) COUNT
+    look (isUneven (length weights) (length amounts)) COUNT
     (word (numberOf (verdict pot (numbers weights) (numbers amounts))) (valueOf (verdict pot (numbers weights) (numbers amounts))))

@@ -1,13 +1,19 @@
 -- Numbers in bytes: "eight bytes to a number, low byte first".
 -- Assumes nothing.
-use Prim.Native.Nat.{ℕ, _+_, _*_, _/_, _%_, _^_}
+use Prim.Native.Nat.{ℕ, _+_, _-_, _*_, _/_, _%_, _^_}
+use mathlib.Core.Bool.{Bool, not, _||_}
 use mathlib.Core.List.{List}
+use lib.Dec.{eqb}
 use lib.ListN.{length}
 use Rattle.lists.specs.Sums.{sumTo, at}
 use Rattle.lists.specs.Entries.{listed}
 
 abbrev pub wordBytes : ℕ
 wordBytes = 8
+
+-- "a byte length that isn't a multiple of eight", of two slices
+abbrev pub isUneven : ℕ → ℕ → Bool
+isUneven these those = not (eqb (these % wordBytes) 0) || not (eqb (those % wordBytes) 0)
 
 -- the number that eight bytes from a place on make
 unfoldable pub numberFrom : List ℕ → ℕ → ℕ

@@ -60,10 +60,7 @@ fn check_words(pot: u64, weights: &[u8], amounts: &[u8], numbers: &mut [u64], ha
 pub extern "C" fn noketualo_divide(pot: u64, weights: &[u8], amounts: &mut [u8]) -> u64
     ensures { λ r. ⌜ HostDivided pot (now (weights .entry)) (now (amounts .entry)) (now (amounts .exit)) r ⌝ }
 {
-    if weights.len() % words::WORD != 0 {
-        return COUNT;
-    }
-    if amounts.len() % words::WORD != 0 {
+    if words::is_uneven(weights.len(), amounts.len()) {
         return COUNT;
     }
     if words::MOST < weights.len() / words::WORD {
@@ -80,10 +77,7 @@ pub extern "C" fn noketualo_divide(pot: u64, weights: &[u8], amounts: &mut [u8])
 pub extern "C" fn noketualo_check(pot: u64, weights: &[u8], amounts: &[u8]) -> u64
     ensures { λ r. ⌜ r ≡ hostVerdict pot (now (weights .entry)) (now (amounts .entry)) ⌝ }
 {
-    if weights.len() % words::WORD != 0 {
-        return COUNT;
-    }
-    if amounts.len() % words::WORD != 0 {
+    if words::is_uneven(weights.len(), amounts.len()) {
         return COUNT;
     }
     if words::MOST < weights.len() / words::WORD {

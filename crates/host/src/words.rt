@@ -4,12 +4,22 @@ ghost use Prim.Native.Nat.{_+_, _*_, _/_, _%_, _≤_, _<_, min};
 ghost use lib.ListN.{length};
 ghost use Rattle.lists.specs.Sums.{at};
 ghost use Rattle.lists.specs.Entries.{put};
-ghost use Rattle.host.specs.Words.{wordBytes, numberFrom, byteOf};
+ghost use Rattle.host.specs.Words.{wordBytes, isUneven, numberFrom};
 ghost use Rattle.host.specs.Stores.{stored, numberAt, byteAt};
 
 // Bytes to a number, and the most numbers that a call takes.
 pub const WORD: usize = 8;
 pub const MOST: usize = 64;
+
+// Whether a byte length is no multiple of eight, of two slices.
+pub fn is_uneven(these: usize, those: usize) -> bool
+    ensures { λ r. ⌜ r ≡ isUneven these those ⌝ }
+{
+    if these % WORD != 0 {
+        return true;
+    }
+    those % WORD != 0
+}
 
 fn wide(byte: u8) -> u64
     ensures { λ r. ⌜ (r ≡ byte) × (r < 256) ⌝ }

@@ -2,7 +2,7 @@
 -- Assumes nothing.
 use mathlib.Core.Path.{_≡_, refl, sym, ap, ap₂, _∙_, subst}
 use mathlib.Core.Logic.{_⊎_, inl, inr, ⊎-elim, _≢_}
-use mathlib.Core.Bool.{Bool, true, false, true≢false, _&&_}
+use mathlib.Core.Bool.{Bool, true, false, true≢false, _&&_, _||_}
 use Prim.Native.Nat.{ℕ, zero, suc, _+_, _*_, _≤_, _<_, min}
 use native.Mathlib.Nat.{eq-or-lt-of-le, le-of-suc-le-suc, not-suc-le-zero, mul-add, mul-zero, le-step, lt-suc-self, zero-mul, add-mul, suc-mul, le-refl}
 use native.Mathlib.Numerals.{add-one}
@@ -136,3 +136,8 @@ pub every-from : (n : ℕ) (t : ℕ → Bool) → ((i : ℕ) → i < n → t i �
 unfolding every
 every-from zero t h = refl
 every-from (suc n) t h = both-true (every n t) (t n) (every-from n t (λ i b. h i (le-step b))) (h n (lt-suc-self n))
+
+-- two tests of which neither holds
+pub neither : (s t : Bool) → (s || t) ≡ false → (s ≡ false) × (t ≡ false)
+neither true t e = (e, absurd (true≢false e))
+neither false t e = (refl, e)

@@ -1,27 +1,31 @@
 -- `host::noketualo_divide` meets its contract: it looks for uneven lengths and too many weights first.
 -- Assumes nothing.
+use mathlib.Core.Path.{_≡_, refl, sym, _∙_}
+use mathlib.Core.Bool.{false}
 use native.Mathlib.Omega.{arith}
 use borrow.Author.Needs.{needs}
-use Rattle.host.proofs.Calls.{refused, divide-uneven-these, divide-uneven-those, divide-many}
+use Rattle.host.specs.Stores.{WholeWords}
+use Rattle.host.proofs.Calls.{refused, divide-uneven, divide-many, whole-words}
 use Rattle.host.proofs.noketualo_divide.Statement.{statement}
 use Rattle.host.proofs.noketualo_divide.Tie as tie
 
+whole : (c : tie.Else1) → WholeWords (c .before .before .before .before .args .weights .now) (c .before .before .before .before .args .amounts .now)
+whole c = whole-words _ _ (sym (c .before .is-uneven .ensures) ∙ c .if1 .left)
+
+is-uneven-requires : tie.Need-is-uneven-requires
+is-uneven-requires c κs = search needs
+
 returns : tie.Need-returns
 returns c =
-    let a = c .before .before .before .args in
-    refused (a .pot) (a .weights .now) (a .amounts .now) 1 (divide-uneven-these (a .pot) (a .weights .now) (a .amounts .now) (c .if1 .taken)) (λ e. omega arith)
+    let a = c .before .before .before .before .args in
+    refused (a .pot) (a .weights .now) (a .amounts .now) 1
+    (divide-uneven (a .pot) (a .weights .now) (a .amounts .now) (sym (c .before .is-uneven .ensures) ∙ c .if1 .taken)) (λ e. omega arith)
 
 returns-2 : tie.Need-returns-2
 returns-2 c =
-    let a = c .before .before .before .before .args in
-    refused (a .pot) (a .weights .now) (a .amounts .now) 1 (divide-uneven-those (a .pot) (a .weights .now) (a .amounts .now) (c .if2 .taken)) (λ e. omega arith)
-
-returns-3 : tie.Need-returns-3
-returns-3 c =
     let a = c .before .before .before .before .before .args in
     refused (a .pot) (a .weights .now) (a .amounts .now) 1
-    (divide-many (a .pot) (a .weights .now) (a .amounts .now) (record { these-whole = c .before .before .if1 .left; those-whole = c .before .if2 .left }) (c .if3 .taken))
-    (λ e. omega arith)
+    (divide-many (a .pot) (a .weights .now) (a .amounts .now) (whole (c .before)) (c .if2 .taken)) (λ e. omega arith)
 
 slice-aggregate-divide-words : tie.Need-slice-aggregate-divide-words
 slice-aggregate-divide-words c = search needs
@@ -30,23 +34,23 @@ slice-aggregate-divide-words-2 : tie.Need-slice-aggregate-divide-words-2
 slice-aggregate-divide-words-2 c = search needs
 
 divide-words-requires : tie.Need-divide-words-requires
-divide-words-requires c κs = search needs
+divide-words-requires c κs = (whole (c .before .before .before .before), (c .before .before .before .if2 .left, refl, refl))
 
 same-length : tie.Need-same-length
 same-length c = search needs
 
-returns-4 : tie.Need-returns-4
-returns-4 c = search needs
+returns-3 : tie.Need-returns-3
+returns-3 c = search needs
 
 pub noketualo-divide-spec : {M : Type 1} → statement M
 noketualo-divide-spec =
     tie.close
     (tie.spec
+    is-uneven-requires
     returns
     returns-2
-    returns-3
     slice-aggregate-divide-words
     slice-aggregate-divide-words-2
     divide-words-requires
     same-length
-    returns-4)
+    returns-3)
