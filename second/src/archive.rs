@@ -1,0 +1,35 @@
+//! The proved archive's statement.
+
+use crate::refusal::ROOM;
+
+extern "C" {
+    /// Reads a month file, settles it and writes the statement to `out`. The answer's low byte is 0,
+    /// or 2 (ROOM) where `out` is too short, with nothing written; above the low byte is the length
+    /// of the statement.
+    fn noketualo_statement(text: *const u8, text_len: usize, out: *mut u8, out_len: usize) -> u64;
+}
+
+/// What the archive answered.
+#[derive(Debug, PartialEq, Eq)]
+pub enum Answer {
+    /// It wrote so many bytes.
+    Written(usize),
+    /// The output is too short; the archive may say for how many bytes.
+    Room(usize),
+    /// No answer that a statement has.
+    Strange(u64),
+}
+
+/// The archive's statement of the text, at the front of the output.
+pub fn statement_into(text: &[u8], out: &mut [u8]) -> Answer {
+    // SAFETY: a slice's pointer is never null, its whole length is lent, and an exclusive slice
+    // overlaps no other.
+    let answer =
+        unsafe { noketualo_statement(text.as_ptr(), text.len(), out.as_mut_ptr(), out.len()) };
+    let value = (answer >> 8) as usize;
+    match answer & 0xff {
+        0 => Answer::Written(value),
+        ROOM => Answer::Room(value),
+        _ => Answer::Strange(answer),
+    }
+}

@@ -1,0 +1,161 @@
+//! Makes up months and damaged files. Each comes from a seed and an index alone, so that a program
+//! can name the one on which it found something, and any other can make it again.
+
+mod aims;
+mod damage;
+mod defects;
+mod good;
+mod numbers;
+
+pub use good::{good, Sizes};
+pub use numbers::Numbers;
+
+use crate::month_file::{write_line, KEYS};
+use crate::tables::{Head, Tables, LIMITS, WIDTHS};
+
+/// The paper's case S, whole input.
+pub const CASE_S: &[u8] = b"month=4\ndays=30\nnonzone=0\nzone=1,365000\nowner=1,1,200\n\
+    owner=2,1,100\nunit=1,2,1,1,12000,0\naccount=1,70,1\naccount=2,71,0\nload=1,1,10\n\
+    load=1,2,10\nptp=2,480,0\nend=9\n";
+
+/// Positions of tables 1 to 6.
+pub const ZONES: usize = 0;
+pub const OWNERS: usize = 1;
+pub const UNITS: usize = 2;
+pub const ACCOUNTS: usize = 3;
+pub const LOADS: usize = 4;
+pub const RESERVATIONS: usize = 5;
+
+/// A row of any table, which has no more entries than a unit's.
+pub type Row = [u64; 6];
+
+/// A month in the making, good or not.
+#[derive(Clone, Debug, Default)]
+pub struct Made {
+    pub head: Head,
+    pub rows: [Vec<Row>; 6],
+}
+
+/// A made-up month: good, aimed at a division, or with faults in its tables.
+pub fn month(seed: u64, index: u64) -> Made {
+    let mut numbers = Numbers::from_seed(seed, 0, index);
+    let mut made = match numbers.below(10) {
+        0..=2 => aims::aimed(&mut numbers),
+        _ => {
+            let sizes = Sizes::any(&mut numbers);
+            good(&mut numbers, &sizes)
+        }
+    };
+    for _ in 0..numbers.one_of(&[0, 0, 0, 0, 0, 1, 1, 1, 1, 2]) {
+        defects::add_defect(&mut numbers, &mut made);
+    }
+    made
+}
+
+/// A damaged month file, or one that breaks a limit.
+pub fn damaged(seed: u64, index: u64) -> Vec<u8> {
+    damage::damaged(&mut Numbers::from_seed(seed, 1, index))
+}
+
+/// A made-up settlement call: tables that may be ragged or over their limits, and outputs that may
+/// be too short.
+pub fn call(seed: u64, index: u64) -> (Head, Tables, usize, usize) {
+    let mut numbers = Numbers::from_seed(seed, 2, index);
+    let made = month(seed, numbers.any());
+    let mut tables = made.tables();
+    let mut charges_len = 3 * made.rows[ACCOUNTS].len();
+    let mut credits_len = 4 * made.rows[OWNERS].len();
+    for _ in 0..numbers.one_of(&[1, 1, 1, 2]) {
+        let table = numbers.position_below(6);
+        match numbers.below(5) {
+            0 => charges_len = charges_len.saturating_sub(1),
+            1 => credits_len = credits_len.saturating_sub(1),
+            2 => tables[table].push(numbers.up_to(9)),
+            3 => tables[table].resize(LIMITS[table] * WIDTHS[table] + WIDTHS[table], 0),
+            _ => (charges_len, credits_len) = (charges_len + 1, credits_len + 1),
+        }
+    }
+    (made.head, tables, charges_len, credits_len)
+}
+
+/// Case S cut short at every place, and with every byte at every place changed, put in or left out.
+pub fn edits_of_case_s() -> impl Iterator<Item = Vec<u8>> {
+    let cut = (0..=CASE_S.len()).map(|place| CASE_S[..place].to_vec());
+    let left_out = (0..CASE_S.len()).map(|place| [&CASE_S[..place], &CASE_S[place + 1..]].concat());
+    let bytes = |place: usize| (0..=u8::MAX).map(move |byte| (place, byte));
+    let changed = (0..CASE_S.len()).flat_map(bytes).map(|(place, byte)| {
+        let mut text = CASE_S.to_vec();
+        text[place] = byte;
+        text
+    });
+    let put_in = (0..=CASE_S.len()).flat_map(bytes).map(|(place, byte)| {
+        let mut text = CASE_S.to_vec();
+        text.insert(place, byte);
+        text
+    });
+    cut.chain(left_out).chain(changed).chain(put_in)
+}
+
+impl Made {
+    pub fn tables(&self) -> Tables {
+        std::array::from_fn(|table| {
+            let rows = self.rows[table].iter();
+            rows.flat_map(|row| &row[..WIDTHS[table]])
+                .copied()
+                .collect()
+        })
+    }
+
+    /// The month's file, whatever its rows are and however many.
+    pub fn text(&self) -> Vec<u8> {
+        let mut text = Vec::new();
+        write_line(&mut text, "month", &[self.head.month]);
+        write_line(&mut text, "days", &[self.head.days]);
+        write_line(&mut text, "nonzone", &[self.head.non_zone_rate]);
+        for table in 0..6 {
+            for row in &self.rows[table] {
+                write_line(&mut text, KEYS[table], &row[..WIDTHS[table]]);
+            }
+        }
+        let rows: usize = self.rows.iter().map(Vec::len).sum();
+        write_line(&mut text, "end", &[rows as u64]);
+        text
+    }
+
+    /// One entry of every row of a table.
+    fn column(&self, table: usize, entry: usize) -> Vec<u64> {
+        self.rows[table].iter().map(|row| row[entry]).collect()
+    }
+
+    fn accounts_of(&self, zone: u64) -> Vec<u64> {
+        let accounts = self.rows[ACCOUNTS].iter();
+        accounts
+            .filter(|row| row[2] == zone)
+            .map(|row| row[0])
+            .collect()
+    }
+
+    fn zones_with_use(&self) -> Vec<u64> {
+        let zones = self.column(ZONES, 0).into_iter();
+        zones.filter(|&zone| self.has_use(zone)).collect()
+    }
+
+    fn has_border_use(&self) -> bool {
+        self.has_use(0)
+    }
+
+    fn has_use(&self, zone: u64) -> bool {
+        let accounts = self.accounts_of(zone);
+        let mut loads = self.rows[LOADS].iter();
+        let mut reservations = self.rows[RESERVATIONS].iter();
+        loads.any(|row| accounts.contains(&row[0]) && row[2] > 0)
+            || reservations.any(|row| accounts.contains(&row[0]) && row[1] > row[2])
+    }
+}
+
+/// A row of fewer entries.
+fn row<const WIDTH: usize>(entries: [u64; WIDTH]) -> Row {
+    let mut row = Row::default();
+    row[..WIDTH].copy_from_slice(&entries);
+    row
+}

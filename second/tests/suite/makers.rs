@@ -1,0 +1,394 @@
+//! The makers reach every refusal at the ends and in the middle, every division place, the limits
+//! and one past them: else agreement on what they make would mean little.
+
+use crate::settled::settled_months;
+use second::divide::{LARGEST_POT, LARGEST_WEIGHT_SUM};
+use second::make::{self, Made, ACCOUNTS, LOADS, OWNERS, RESERVATIONS, UNITS, ZONES};
+use second::month_file::{read, FULL_SIZE};
+use second::refusal::{BASE, BIG, COUNT, LINK, MONTH, ORDER, PAIR, RANGE, ROOM, TEXT};
+use second::settle::{network_charge, settle, unit_month};
+use second::statement::MOST_BYTES;
+use second::tables::LIMITS;
+use std::collections::BTreeMap;
+
+const INPUTS: u64 = 50_000;
+const SEED: u64 = 41;
+
+/// How often each thing was seen, under a name for it.
+#[derive(Default)]
+struct Seen(BTreeMap<String, usize>);
+
+impl Seen {
+    fn see(&mut self, name: String) {
+        *self.0.entry(name).or_default() += 1;
+    }
+
+    fn hold(&self, least: usize, name: &str) {
+        let count = self.0.get(name).copied().unwrap_or(0);
+        assert!(count >= least, "{name}: {count}");
+    }
+
+    fn print(&self) {
+        for (name, count) in &self.0 {
+            println!("{count:>7} {name}");
+        }
+    }
+}
+
+/// First, middle and last of the positions, as far as they are different.
+fn ends(position: u64, first: u64, last: u64) -> Vec<&'static str> {
+    let ends = [("first", position == first), ("last", position == last)];
+    let ends: Vec<&str> = ends
+        .into_iter()
+        .filter(|end| end.1)
+        .map(|end| end.0)
+        .collect();
+    if ends.is_empty() {
+        vec!["middle"]
+    } else {
+        ends
+    }
+}
+
+/// The kind of a division place with that many zones, and the zone's position where it has one.
+fn place_kind(place: u64, zones: u64) -> (&'static str, Option<u64>) {
+    let services = ["black start", "reactive"];
+    if place < zones {
+        return ("network zone", Some(place));
+    }
+    if place == zones {
+        return ("network non-zone", None);
+    }
+    let place = place - zones - 1;
+    let (service, place) = (place / (2 * zones + 1), place % (2 * zones + 1));
+    let kind = match (services[service as usize], place) {
+        ("black start", place) if place == 2 * zones => "black start non-zone",
+        (_, place) if place == 2 * zones => return ("reactive non-zone", None),
+        ("black start", place) if place % 2 == 0 => "black start split",
+        ("black start", _) => "black start share",
+        (_, place) if place % 2 == 0 => "reactive split",
+        _ => "reactive share",
+    };
+    let position = (place < 2 * zones).then_some(place / 2);
+    (kind, position)
+}
+
+#[test]
+fn months_reach_every_refusal_and_place() {
+    let mut seen = Seen::default();
+    for index in 0..INPUTS {
+        let made = make::month(SEED, index);
+        look_at_sizes(&made, &mut seen);
+        look_at_limits(&made, &mut seen);
+        match settle(made.head, &made.tables(), usize::MAX, usize::MAX) {
+            Ok(_) => seen.see("accepted".into()),
+            Err((number @ (BIG | BASE), 9, place)) => {
+                let zones = made.rows[ZONES].len() as u64;
+                let (kind, position) = place_kind(place, zones);
+                seen.see(format!("{number} {kind}"));
+                for end in position.map_or(vec![], |position| ends(position, 0, zones - 1)) {
+                    seen.see(format!("{number} {kind}, {end} zone"));
+                }
+            }
+            Err((number, 0, 0)) => seen.see(format!("{number} head")),
+            Err((number, table, row)) => {
+                let last = made.rows[table as usize - 1].len() as u64 - 1;
+                let first = if number == ORDER || number == PAIR {
+                    1
+                } else {
+                    0
+                };
+                for end in ends(row, first, last) {
+                    seen.see(format!("{number} table {table}, {end} row"));
+                }
+            }
+        }
+    }
+    seen.print();
+
+    seen.hold(INPUTS as usize / 3, "accepted");
+    seen.hold(100, &format!("{MONTH} head"));
+    seen.hold(100, &format!("{RANGE} head"));
+    for end in ["first", "middle", "last"] {
+        for table in 1..=6 {
+            seen.hold(20, &format!("{RANGE} table {table}, {end} row"));
+            seen.hold(10, &format!("{ORDER} table {table}, {end} row"));
+            if table > 1 {
+                seen.hold(10, &format!("{LINK} table {table}, {end} row"));
+            }
+        }
+        seen.hold(20, &format!("{PAIR} table 4, {end} row"));
+        let of_zones = [
+            (BIG, "network zone"),
+            (BASE, "network zone"),
+            (BIG, "black start split"),
+            (BASE, "black start share"),
+            (BIG, "reactive split"),
+            (BASE, "reactive share"),
+            (BASE, "reactive split"),
+            (BASE, "black start split"),
+        ];
+        for (number, kind) in of_zones {
+            seen.hold(5, &format!("{number} {kind}, {end} zone"));
+        }
+    }
+    let of_the_border = [
+        (BIG, "network non-zone"),
+        (BASE, "network non-zone"),
+        (BIG, "black start non-zone"),
+        (BIG, "reactive non-zone"),
+    ];
+    for (number, kind) in of_the_border {
+        seen.hold(20, &format!("{number} {kind}"));
+    }
+    // "Can't happen."
+    for never in [
+        "8 black start share",
+        "8 reactive share",
+        "9 black start non-zone",
+        "9 reactive non-zone",
+    ] {
+        assert!(!seen.0.contains_key(never), "{never}");
+    }
+    for kind in [
+        "zone pot",
+        "border pot",
+        "zone weights",
+        "all weights",
+        "units pot of service 1",
+        "units pot of service 2",
+        "non-zone pot of service 1",
+        "non-zone pot of service 2",
+    ] {
+        for place in ["at the limit", "one past it"] {
+            seen.hold(20, &format!("{kind} {place}"));
+        }
+    }
+    for table in 1..=6 {
+        seen.hold(100, &format!("table {table} full"));
+        seen.hold(100, &format!("table {table} empty"));
+    }
+    seen.hold(100, "accounts in the border and in zones");
+    seen.hold(100, "a unit elsewhere");
+}
+
+fn look_at_sizes(made: &Made, seen: &mut Seen) {
+    for (table, rows) in made.rows.iter().enumerate() {
+        if rows.len() == LIMITS[table] {
+            seen.see(format!("table {} full", table + 1));
+        }
+        if rows.is_empty() {
+            seen.see(format!("table {} empty", table + 1));
+        }
+    }
+    let at_border = made.rows[ACCOUNTS].iter().filter(|row| row[2] == 0).count();
+    if at_border > 0 && at_border < made.rows[ACCOUNTS].len() {
+        seen.see("accounts in the border and in zones".into());
+    }
+    let elsewhere = |unit: &[u64; 6]| {
+        let mut owners = made.rows[OWNERS].iter();
+        owners.any(|owner| owner[0] == unit[1] && owner[1] != unit[2])
+    };
+    if made.rows[UNITS].iter().any(elsewhere) {
+        seen.see("a unit elsewhere".into());
+    }
+}
+
+/// How close to their limits the pots and weights are, of months without a fault in their tables.
+fn look_at_limits(made: &Made, seen: &mut Seen) {
+    let settled = settle(made.head, &made.tables(), usize::MAX, usize::MAX);
+    if settled.is_err_and(|(number, _, _)| number != BIG && number != BASE) {
+        return;
+    }
+    let zones = made.rows[ZONES].iter().map(|row| (row[0], row[1]));
+    for (zone, rate) in zones.chain([(0, made.head.non_zone_rate)]) {
+        let accounts = made.rows[ACCOUNTS].iter().filter(|row| row[2] == zone);
+        let charges = accounts.map(|account| {
+            let loads = made.rows[LOADS].iter().filter(|row| row[0] == account[0]);
+            let contributions = loads.map(|row| u128::from(row[2])).sum();
+            network_charge(contributions, u128::from(rate))
+        });
+        let kind = if zone == 0 { "border pot" } else { "zone pot" };
+        near(kind, charges.sum(), LARGEST_POT, seen);
+        let owners = made.rows[OWNERS].iter().filter(|row| row[1] == zone);
+        let weights = owners.map(|row| u128::from(row[2])).sum();
+        near("zone weights", weights, LARGEST_WEIGHT_SUM, seen);
+        for service in [1, 2] {
+            let pot = units_pot(made, |unit| unit[2] == zone && unit[3] == service);
+            near(
+                &format!("units pot of service {service}"),
+                pot,
+                LARGEST_POT,
+                seen,
+            );
+        }
+    }
+    let weights = made.rows[OWNERS].iter().map(|row| u128::from(row[2]));
+    near("all weights", weights.sum(), LARGEST_WEIGHT_SUM, seen);
+    // Without any use in a zone, all zones' pots go to the border.
+    let in_zones = |number: u64| {
+        let mut accounts = made.rows[ACCOUNTS].iter();
+        accounts.any(|row| row[0] == number && row[2] != 0)
+    };
+    let mut loads = made.rows[LOADS].iter();
+    let mut reservations = made.rows[RESERVATIONS].iter();
+    if loads.any(|row| in_zones(row[0])) || reservations.any(|row| in_zones(row[0])) {
+        return;
+    }
+    for service in [1, 2] {
+        let pot = units_pot(made, |unit| unit[3] == service);
+        near(
+            &format!("non-zone pot of service {service}"),
+            pot,
+            LARGEST_POT,
+            seen,
+        );
+    }
+}
+
+fn units_pot(made: &Made, chosen: impl Fn(&[u64; 6]) -> bool) -> u128 {
+    let month = u128::from(made.head.month);
+    let units = made.rows[UNITS].iter().filter(|unit| chosen(unit));
+    units
+        .map(|unit| unit_month(u128::from(unit[4]), month) + u128::from(unit[5]))
+        .sum()
+}
+
+fn near(kind: &str, number: u128, limit: u128, seen: &mut Seen) {
+    if number == limit {
+        seen.see(format!("{kind} at the limit"));
+    }
+    if number == limit + 1 {
+        seen.see(format!("{kind} one past it"));
+    }
+}
+
+/// Equal remainders where some of them get a cent and others don't.
+#[test]
+fn many_divisions_have_ties() {
+    let mut seen = Seen::default();
+    for settled in settled_months(SEED, INPUTS) {
+        for division in settled.divisions() {
+            if has_tie(division.pot, &division.weights) {
+                seen.see(division.kind.into());
+            }
+        }
+    }
+    seen.print();
+    for kind in ["network zone", "network non-zone"] {
+        seen.hold(1_000, kind);
+    }
+    for service in ["black start", "reactive"] {
+        for kind in ["split", "share", "non-zone"] {
+            seen.hold(100, &format!("{service} {kind}"));
+        }
+    }
+}
+
+fn has_tie(pot: u64, weights: &[u64]) -> bool {
+    let total: u128 = weights.iter().map(|&weight| u128::from(weight)).sum();
+    if total == 0 {
+        return false;
+    }
+    let products = weights
+        .iter()
+        .map(|&weight| u128::from(pot) * u128::from(weight));
+    let mut remainders: Vec<u128> = products.map(|product| product % total).collect();
+    remainders.sort_unstable_by(|one, other| other.cmp(one));
+    let left_over = (remainders.iter().sum::<u128>() / total) as usize;
+    left_over > 0 && left_over < weights.len() && remainders[left_over - 1] == remainders[left_over]
+}
+
+#[test]
+fn damaged_files_reach_every_answer_of_reading() {
+    let mut seen = Seen::default();
+    for index in 0..INPUTS {
+        let text = make::damaged(SEED, index);
+        if text.len() > MOST_BYTES {
+            seen.see("over the statement's limit".into());
+        }
+        if text.len() == MOST_BYTES {
+            seen.see("at the statement's limit".into());
+        }
+        let line_starts = |offset: u64| {
+            let text = &text[offset as usize..];
+            let key = text.split(|&byte| byte == b'=' || byte == b'\n').next();
+            String::from_utf8_lossy(key.unwrap_or_default()).into_owned()
+        };
+        match read(&text, &FULL_SIZE) {
+            Ok((head, tables)) => match settle(head, &tables, usize::MAX, usize::MAX) {
+                Ok(_) => seen.see("accepted".into()),
+                Err((number, _, _)) => seen.see(format!("read, then {number}")),
+            },
+            Err((COUNT, table, _)) => seen.see(format!("{COUNT} table {table}")),
+            Err((TEXT, 0, 0)) => seen.see("10 first line".into()),
+            Err((TEXT, 0, offset)) if offset == text.len() as u64 => {
+                seen.see("10 missing line".into());
+            }
+            Err((TEXT, 0, offset)) => {
+                let key = line_starts(offset);
+                let after_end = text[..offset as usize - 1]
+                    .rsplit(|&byte| byte == b'\n')
+                    .next();
+                if after_end.is_some_and(|line| line.starts_with(b"end=")) {
+                    seen.see("10 after end".into());
+                }
+                let known = [
+                    "days", "nonzone", "zone", "owner", "unit", "account", "load", "ptp", "end", "",
+                ];
+                if known.contains(&key.as_str()) {
+                    seen.see(format!("10 at a line {key:?}"));
+                } else {
+                    seen.see("10 at another line".into());
+                }
+            }
+            Err(refusal) => panic!("{refusal:?}"),
+        }
+    }
+    seen.print();
+
+    seen.hold(INPUTS as usize / 20, "accepted");
+    for table in 1..=6 {
+        seen.hold(20, &format!("{COUNT} table {table}"));
+    }
+    for number in [MONTH, RANGE, ORDER, LINK] {
+        seen.hold(20, &format!("read, then {number}"));
+    }
+    for key in [
+        "days", "nonzone", "zone", "owner", "unit", "account", "load", "ptp", "end", "",
+    ] {
+        seen.hold(20, &format!("10 at a line {key:?}"));
+    }
+    for place in ["first line", "missing line", "after end", "at another line"] {
+        seen.hold(20, &format!("10 {place}"));
+    }
+    seen.hold(20, "over the statement's limit");
+    seen.hold(20, "at the statement's limit");
+}
+
+#[test]
+fn calls_reach_count_and_room() {
+    let mut seen = Seen::default();
+    for index in 0..INPUTS / 5 {
+        let (head, tables, charges_len, credits_len) = make::call(SEED, index);
+        match settle(head, &tables, charges_len, credits_len) {
+            Ok(_) => seen.see("accepted".into()),
+            Err((number @ (COUNT | ROOM), table, row)) => {
+                assert_eq!(row, 0);
+                seen.see(format!("{number} table {table}"));
+            }
+            Err((number, _, _)) => seen.see(number.to_string()),
+        }
+    }
+    seen.print();
+    seen.hold(100, "accepted");
+    for table in 1..=6 {
+        seen.hold(20, &format!("{COUNT} table {table}"));
+    }
+    for table in 7..=8 {
+        seen.hold(20, &format!("{ROOM} table {table}"));
+    }
+    for number in [MONTH, RANGE, ORDER, LINK, PAIR, BIG, BASE] {
+        seen.hold(20, &number.to_string());
+    }
+}
