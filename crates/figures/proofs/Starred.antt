@@ -7,10 +7,12 @@ use Rattle.closeness.specs.Closeness.{level}
 use Rattle.division.specs.Limits.{sizeRefusal, divideRefusal, checkRefusal}
 use Rattle.division.specs.Shares.{quotient, remainder, leftover, comesBefore, getsCent, share, shares}
 use Rattle.division.specs.Check.{passes, verdict}
+use Rattle.month.specs.Quantities.{nearest, networkCharge}
+use Rattle.month.specs.Months.{through, twelfth}
 use Rattle.figures.specs.Starred.{Starred}
 
 pub starred : Starred
-unfolding sumTo every largestFirst listed level sizeRefusal divideRefusal checkRefusal quotient remainder leftover comesBefore getsCent share shares passes verdict
+unfolding sumTo every largestFirst listed level sizeRefusal divideRefusal checkRefusal quotient remainder leftover comesBefore getsCent share shares passes verdict nearest networkCharge through twelfth
 starred =
     record {
       D1 = refl;
@@ -24,5 +26,7 @@ starred =
       D7-baseless = refl;
       C1 = refl;
       C1-other = refl;
-      C2 = refl
+      C2 = refl;
+      N1 = refl;
+      M1 = refl
     }

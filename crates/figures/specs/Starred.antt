@@ -8,6 +8,8 @@ use Rattle.division.specs.Limits.{divideRefusal}
 use Rattle.division.specs.Shares.{shares}
 use Rattle.division.specs.Check.{verdict}
 use Rattle.division.specs.declared.Verdict.the-variants.{Yes, No}
+use Rattle.month.specs.Quantities.{networkCharge}
+use Rattle.month.specs.Months.{twelfth}
 
 pub record Starred : Type 0 where
   -- 100 by 1, 1, 1 and by 1, 2, 4
@@ -27,3 +29,7 @@ pub record Starred : Type 0 where
   pub C1 : verdict 2 (1 ∷ 1 ∷ 1 ∷ 1 ∷ []) (0 ∷ 1 ∷ 0 ∷ 1 ∷ []) ≡ Yes
   pub C1-other : verdict 2 (1 ∷ 1 ∷ 1 ∷ 1 ∷ []) (2 ∷ 0 ∷ 0 ∷ 0 ∷ []) ≡ No
   pub C2 : verdict 100 (1 ∷ 2 ∷ 4 ∷ []) (15 ∷ 28 ∷ 57 ∷ []) ≡ No
+  -- 3,000 tenths in the month at 1,471,400
+  pub N1 : networkCharge 3_000 1_471_400 ≡ 1_209_370
+  -- annual 100: months 1, 2, 3
+  pub M1 : twelfth 1 100 ∷ twelfth 2 100 ∷ twelfth 3 100 ∷ [] ≡ 8 ∷ 8 ∷ 9 ∷ []
