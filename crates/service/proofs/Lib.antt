@@ -1,0 +1,8 @@
+pub mod Sums
+pub mod Charging
+pub mod Serving
+pub mod Laws
+pub mod Turns
+pub mod Same
+pub mod Unique
+pub mod Promises

@@ -1,0 +1,74 @@
+-- The divisions of one service in turn, their places, and what a call answers and writes.
+-- Assumes nothing.
+use mathlib.Core.Path.{_≡_}
+use mathlib.Core.Logic.{_≢_}
+use mathlib.Core.List.{List}
+use Prim.Native.Nat.{ℕ, _+_, _*_, _<_}
+use Rattle.lists.specs.Sums.{total}
+use Rattle.answer.specs.declared.Answer.{Answer}
+use Rattle.answer.specs.Numbers.{BIG, BASE, divisions}
+use Rattle.answer.specs.Turns.{refuse, _then_}
+use Rattle.division.specs.Limits.{sizeRefusal}
+use Rattle.groups.specs.Turns.{turns}
+use Rattle.groups.specs.Columns.{Written}
+use Rattle.groups.specs.Groups.{refusal}
+use Rattle.service.specs.Service.{Service, uses, zoneSides, nonzonePot, nonzoneParts, serviceCharge}
+
+-- "each BIG, then BASE": the number of zone z's split, 0 where it is fine ..
+unfoldable pub splitRefusal : Service → ℕ → ℕ
+splitRefusal s z = sizeRefusal (s .pot z) (total (uses s))
+
+-- .. of its share ..
+unfoldable pub shareRefusal : Service → ℕ → ℕ
+shareRefusal s z = refusal (zoneSides s) z
+
+-- .. and of the non-zone pot's division
+unfoldable pub nonzoneRefusal : Service → ℕ
+nonzoneRefusal s = sizeRefusal (nonzonePot s) (total (nonzoneParts s))
+
+-- "black start zone i split k+1+2i ..", counted from the first split's place
+abbrev pub splitPlace : ℕ → ℕ → ℕ
+splitPlace place z = place + 2 * z
+
+-- ".. and share k+2+2i .."
+abbrev pub sharePlace : ℕ → ℕ → ℕ
+sharePlace place z = place + 2 * z + 1
+
+-- ".. its non-zone 3k+1"
+abbrev pub nonzonePlace : ℕ → Service → ℕ
+nonzonePlace place s = place + 2 * s .zones
+
+-- the two divisions of zone z
+unfoldable pub zoneTurn : Service → ℕ → ℕ → Answer
+zoneTurn s place z =
+    refuse (splitRefusal s z) divisions (splitPlace place z)
+    then refuse (shareRefusal s z) divisions (sharePlace place z)
+
+-- "then its divisions in turn": zone by zone, and the non-zone pot's last
+unfoldable pub serviceInTurn : Service → ℕ → Answer
+serviceInTurn s place = turns (zoneTurn s place) (s .zones) then refuse (nonzoneRefusal s) divisions (nonzonePlace place s)
+
+-- What `charge` answers and writes: each account's charge.
+abbrev pub Served : Service → ℕ → List ℕ → List ℕ → Answer → Type 0
+Served s place before after r = Written (s .accounts) (serviceCharge s) (serviceInTurn s place) before after r
+
+-- A service is accepted where every division of it is fine.
+pub record Accepted (s : Service) : Type 0 where
+  pub split-fine : (z : ℕ) → z < s .zones → splitRefusal s z ≡ 0
+  pub share-fine : (z : ℕ) → z < s .zones → shareRefusal s z ≡ 0
+  pub nonzone-fine : nonzoneRefusal s ≡ 0
+
+-- Both divisions of every zone before zone z are fine.
+pub record FineBefore (s : Service) (z : ℕ) : Type 0 where
+  pub splits : (y : ℕ) → y < z → splitRefusal s y ≡ 0
+  pub shares : (y : ℕ) → y < z → shareRefusal s y ≡ 0
+
+-- Where a service is refused, and that nothing before is: at the split of a zone, at its share, which is BASE, or at the non-zone
+-- pot's division, which is BIG.
+pub data RefusedAt (s : Service) (place : ℕ) (r : Answer) : Type 0 where
+  at-split : (z : ℕ) → z < s .zones → FineBefore s z → splitRefusal s z ≢ 0
+    → r ≡ record { number = splitRefusal s z; table = divisions; row = splitPlace place z } → RefusedAt s place r
+  at-share : (z : ℕ) → z < s .zones → FineBefore s z → splitRefusal s z ≡ 0 → shareRefusal s z ≡ BASE
+    → r ≡ record { number = BASE; table = divisions; row = sharePlace place z } → RefusedAt s place r
+  at-nonzone : FineBefore s (s .zones) → nonzoneRefusal s ≡ BIG
+    → r ≡ record { number = BIG; table = divisions; row = nonzonePlace place s } → RefusedAt s place r
