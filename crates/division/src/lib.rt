@@ -71,9 +71,9 @@ pub fn check(pot: u64, weights: &[u64], amounts: &[u64]) -> Verdict
         return Verdict::Refused(COUNT);
     }
     let sum = limits::sum_capped(weights, limits::WEIGHT_LIMIT + 1);
-    let number = limits::size_refusal(pot, sum);
-    if number != ACCEPTED {
-        return Verdict::Refused(number);
+    let refusal = limits::size_refusal(pot, sum);
+    if refusal != ACCEPTED {
+        return Verdict::Refused(refusal);
     }
     let handed_out = limits::sum_capped(amounts, limits::POT_LIMIT + 1);
     if handed_out != pot {

@@ -1,0 +1,113 @@
+-- An answer passes, and what it looked at is good; or it stops, and says why. Stages that are taken in turn make one stage.
+-- Assumes nothing.
+use mathlib.Core.Path.{_≡_, refl, sym, ap, subst, _∙_}
+use mathlib.Core.Logic.{⊎-elim, _≢_}
+use mathlib.Core.Bool.{Bool, true, false}
+use Prim.Native.Nat.{ℕ, zero, suc, _<_}
+use native.Mathlib.Omega.{arith}
+use Rattle.lists.proofs.Sums.{last-or-below}
+use Rattle.answer.specs.declared.Answer.{Answer}
+use Rattle.answer.specs.Turns.{look, accepted, refuse, _then_}
+use Rattle.answer.proofs.Turns.{zero-or-not, then-first, then-second, refuse-none, refuse-some, refuse-number}
+use Rattle.tables.specs.declared.Table.{Table}
+use Rattle.tables.specs.declared.Table.the-variants.{Zones, Owners, Units, Accounts, Loads, Reservations}
+use Rattle.tables.specs.Shape.{number}
+use Rattle.tables.specs.Judgement.{inTurn}
+use Rattle.tables.specs.Refused.{refusal}
+use Rattle.tables.proofs.Tests.{Tests, breaks}
+
+pub data Stage (Good : Type 0) (Bad : Answer → Type 0) (a : Answer) : Type 0 where
+  passed : a ≡ accepted → Good → Stage Good Bad a
+  stopped : a .number ≢ 0 → Bad a → Stage Good Bad a
+
+-- what is good, in other words
+pub passed-on : {G H : Type 0} {B : Answer → Type 0} {a : Answer} → (G → H) → Stage G B a → Stage H B a
+passed-on f (passed e g) = passed e (f g)
+passed-on f (stopped d w) = stopped d w
+
+-- a second stage is looked at where the first has passed
+pub then-stage : {G H : Type 0} {B : Answer → Type 0} {a b : Answer} → Stage G B a → (G → Stage H B b) → Stage H B (a then b)
+then-stage {G} {H} {B} {a} {b} (passed e g) next =
+    subst (Stage H B) (sym (then-second a b (ap (λ (r : Answer). r .number) e))) (next g)
+then-stage {G} {H} {B} {a} {b} (stopped d w) next = subst (Stage H B) (sym (then-first a b d)) (stopped d w)
+
+-- a number at a place
+pub refuse-stage : {G : Type 0} {B : Answer → Type 0} (n table row : ℕ) → (n ≡ 0 → G) → (n ≢ 0 → B (refusal n table row)) → Stage G B (refuse n table row)
+refuse-stage {G} {B} n table row good bad =
+    ⊎-elim
+    (λ (z : n ≡ 0). passed (refuse-none n table row z) (good z))
+    (λ (d : n ≢ 0).
+      stopped (λ z. d (sym (refuse-number n table row) ∙ z)) (subst B (sym (refuse-some n table row d)) (bad d)))
+    (zero-or-not n)
+
+-- one look
+pub look-stage : {G : Type 0} {B : Answer → Type 0} {fault : Bool} (n table row : ℕ) → n ≢ 0 → Tests G fault → (¬ G → B (refusal n table row)) → Stage G B (refuse (look fault n 0) table row)
+look-stage {fault = true} n table row d test bad = refuse-stage n table row (λ z. absurd (d z)) (λ e. bad (breaks test refl))
+look-stage {fault = false} n table row d test bad = refuse-stage 0 table row (λ z. test .holds refl) (λ e. absurd (e refl))
+
+-- a table is known by its number
+tableAt : ℕ → Table
+tableAt zero = Zones
+tableAt (suc zero) = Zones
+tableAt (suc (suc zero)) = Owners
+tableAt (suc (suc (suc zero))) = Units
+tableAt (suc (suc (suc (suc zero)))) = Accounts
+tableAt (suc (suc (suc (suc (suc zero))))) = Loads
+tableAt (suc (suc (suc (suc (suc (suc n)))))) = Reservations
+
+at-number : (table : Table) → tableAt (number table) ≡ table
+unfolding tableAt
+at-number Zones = refl
+at-number Owners = refl
+at-number Units = refl
+at-number Accounts = refl
+at-number Loads = refl
+at-number Reservations = refl
+
+same-number : (a b : Table) → number a ≡ number b → a ≡ b
+same-number a b e = sym (at-number a) ∙ ap tableAt e ∙ at-number b
+
+from-one : (table : Table) → 0 < number table
+from-one Zones = omega arith
+from-one Owners = omega arith
+from-one Units = omega arith
+from-one Accounts = omega arith
+from-one Loads = omega arith
+from-one Reservations = omega arith
+
+to-six : (table : Table) → number table < 7
+to-six Zones = omega arith
+to-six Owners = omega arith
+to-six Units = omega arith
+to-six Accounts = omega arith
+to-six Loads = omega arith
+to-six Reservations = omega arith
+
+abbrev Upto : (Table → Type 0) → ℕ → Type 0
+Upto G k = (earlier : Table) → number earlier < k → G earlier
+
+-- tables 1 to 6 in turn, where each stage may rest on all the tables before
+module _ (G : Table → Type 0) (B : Answer → Type 0) (f : Table → Answer) (stage : (table : Table) → Upto G (number table) → Stage (G table) B (f table)) where
+  one-more : (table : Table) → Upto G (number table) → G table → Upto G (suc (number table))
+  one-more table before here earlier h =
+      ⊎-elim
+      (λ (e : number earlier ≡ number table). subst G (sym (same-number earlier table e)) here)
+      (λ (l : number earlier < number table). before earlier l)
+      (last-or-below (number table) (number earlier) h)
+
+  next : (table : Table) → Upto G (number table) → Stage (Upto G (suc (number table))) B (f table)
+  next table before = passed-on (one-more table before) (stage table before)
+
+  pub in-turn-stage : Stage ((table : Table) → G table) B (inTurn f)
+  unfolding inTurn
+  in-turn-stage =
+      passed-on (λ all table. all table (to-six table))
+      (then-stage
+      (then-stage
+      (then-stage
+      (then-stage
+      (then-stage (next Zones (λ earlier h. absurd (omega (arith, from-one earlier)))) (next Owners))
+      (next Units))
+      (next Accounts))
+      (next Loads))
+      (next Reservations))

@@ -1,0 +1,68 @@
+-- The paper's list of tables 1 to 6: each one's number, how many entries a row has, how many rows there may be.
+-- Assumes nothing.
+use Prim.Native.Nat.{ℕ, _/_}
+use mathlib.Core.List.{List}
+use lib.ListN.{length}
+use Rattle.answer.specs.Numbers as tables
+use Rattle.tables.specs.declared.Table.{Table}
+use Rattle.tables.specs.declared.Table.the-variants.{Zones, Owners, Units, Accounts, Loads, Reservations}
+
+-- "Table numbers are used in refusals"
+abbrev pub number : Table → ℕ
+number Zones = tables.zones
+number Owners = tables.owners
+number Units = tables.units
+number Accounts = tables.accounts
+number Loads = tables.loads
+number Reservations = tables.reservations
+
+-- how many entries a row has
+abbrev pub width : Table → ℕ
+width Zones = 2
+width Owners = 3
+width Units = 6
+width Accounts = 3
+width Loads = 3
+width Reservations = 3
+
+-- "at most"
+abbrev pub limit : Table → ℕ
+limit Zones = 16
+limit Owners = 64
+limit Units = 64
+limit Accounts = 32
+limit Loads = 992
+limit Reservations = 32
+
+-- "every account row's three charges", "every owner's four credits"
+abbrev pub chargeWidth : ℕ
+chargeWidth = 3
+
+abbrev pub creditWidth : ℕ
+creditWidth = 4
+
+-- "rows laid end to end": how many whole ones there are
+abbrev pub rows : Table → List ℕ → ℕ
+rows table words = length words / width table
+
+-- what the six tables hold, row by row; "every other table may be empty"
+pub record Tables : Type 0 where
+  pub zones : List ℕ
+  pub owners : List ℕ
+  pub units : List ℕ
+  pub accounts : List ℕ
+  pub loads : List ℕ
+  pub reservations : List ℕ
+
+-- the record of six lists
+abbrev pub tablesOf : List ℕ → List ℕ → List ℕ → List ℕ → List ℕ → List ℕ → Tables
+tablesOf z o u a l r = record { zones = z; owners = o; units = u; accounts = a; loads = l; reservations = r }
+
+-- the words of one of them
+abbrev pub wordsOf : Tables → Table → List ℕ
+wordsOf t Zones = t .zones
+wordsOf t Owners = t .owners
+wordsOf t Units = t .units
+wordsOf t Accounts = t .accounts
+wordsOf t Loads = t .loads
+wordsOf t Reservations = t .reservations

@@ -1,0 +1,151 @@
+// The shape of a month's tables 1 to 6, and the judgement of a month's input: whole rows and limits, room in the lent outputs, the
+// head, then every table row by row, until the first refusal. A table is named by a `Table`; its rows lie end to end in one
+// slice of words, and `columns` has each entry of a row by name.
+ghost use mathlib.Core.Path.{_≡_};
+ghost use Prim.Native.Nat.{_/_};
+ghost use Rattle.tables.specs.Shape.{number, width, limit, tablesOf};
+ghost use Rattle.tables.specs.Judgement.{judged};
+use answer::Answer;
+
+pub mod columns;
+pub mod counts;
+mod rows;
+mod rules;
+mod turns;
+
+// One of tables 1 to 6.
+pub enum Table {
+    Zones,
+    Owners,
+    Units,
+    Accounts,
+    Loads,
+    Reservations,
+}
+
+// How many entries a row of each table has.
+pub const ZONE_WIDTH: usize = 2;
+pub const OWNER_WIDTH: usize = 3;
+pub const UNIT_WIDTH: usize = 6;
+pub const ACCOUNT_WIDTH: usize = 3;
+pub const LOAD_WIDTH: usize = 3;
+pub const RESERVATION_WIDTH: usize = 3;
+
+// How many rows each table may have.
+pub const MOST_ZONES: usize = 16;
+pub const MOST_OWNERS: usize = 64;
+pub const MOST_UNITS: usize = 64;
+pub const MOST_ACCOUNTS: usize = 32;
+pub const MOST_LOADS: usize = 992;
+pub const MOST_RESERVATIONS: usize = 32;
+
+// How many figures an account's row of charges and an owner's row of credits have.
+pub const CHARGE_WIDTH: usize = 3;
+pub const CREDIT_WIDTH: usize = 4;
+
+// The highest number that names a zone, an owner, a unit, an account and a customer; each starts at 1.
+pub const LAST_ZONE: u64 = 999;
+pub const LAST_OWNER: u64 = 9_999;
+pub const LAST_UNIT: u64 = 9_999;
+pub const LAST_ACCOUNT: u64 = 9_999;
+pub const LAST_CUSTOMER: u64 = 1_000_000_000;
+
+// The most that a rate, an annual requirement, a reserve credit, a day's peak load and a month's energy may be.
+pub const MOST_RATE: u64 = 100_000_000;
+pub const MOST_ANNUAL: u64 = 1_000_000_000_000;
+pub const MOST_RESERVE: u64 = 10_000_000_000;
+pub const MOST_LOAD: u64 = 1_000_000;
+pub const MOST_ENERGY: u64 = 1_000_000_000;
+
+// The two services.
+pub const BLACK_START: u64 = 1;
+pub const REACTIVE: u64 = 2;
+
+// The number of a table in a refusal.
+pub fn number(table: Table) -> u64
+    ensures { λ r. ⌜ r ≡ number table ⌝ }
+{
+    match table {
+        Table::Zones => answer::ZONES,
+        Table::Owners => answer::OWNERS,
+        Table::Units => answer::UNITS,
+        Table::Accounts => answer::ACCOUNTS,
+        Table::Loads => answer::LOADS,
+        Table::Reservations => answer::RESERVATIONS,
+    }
+}
+
+// How many entries a row of a table has.
+pub fn width(table: Table) -> usize
+    ensures { λ r. ⌜ r ≡ width table ⌝ }
+{
+    match table {
+        Table::Zones => ZONE_WIDTH,
+        Table::Owners => OWNER_WIDTH,
+        Table::Units => UNIT_WIDTH,
+        Table::Accounts => ACCOUNT_WIDTH,
+        Table::Loads => LOAD_WIDTH,
+        Table::Reservations => RESERVATION_WIDTH,
+    }
+}
+
+// How many rows a table may have.
+pub fn limit(table: Table) -> usize
+    ensures { λ r. ⌜ r ≡ limit table ⌝ }
+{
+    match table {
+        Table::Zones => MOST_ZONES,
+        Table::Owners => MOST_OWNERS,
+        Table::Units => MOST_UNITS,
+        Table::Accounts => MOST_ACCOUNTS,
+        Table::Loads => MOST_LOADS,
+        Table::Reservations => MOST_RESERVATIONS,
+    }
+}
+
+// How many whole rows of a table lie in so many words.
+pub fn rows_in(table: Table, words: usize) -> usize
+    ensures { λ r. ⌜ r ≡ words / width table ⌝ }
+{
+    words / width(table)
+}
+
+// The answer to a month's input: COUNT for tables 1 to 6, ROOM for the outputs, whose lengths in words `charges` and `credits` are,
+// MONTH, the non-zone rate's RANGE, then tables 1 to 6 row by row, in a row RANGE, ORDER, LINK, PAIR. The first refusal is
+// the answer; acceptance is 0, 0, 0. Any input is judged, and nothing of it is changed.
+pub fn judge(
+    month: u64,
+    days: u64,
+    nonzone: u64,
+    zones: &[u64],
+    owners: &[u64],
+    units: &[u64],
+    accounts: &[u64],
+    loads: &[u64],
+    reservations: &[u64],
+    charges: usize,
+    credits: usize,
+) -> Answer
+    ensures { λ r. ⌜ r ≡ judged month days nonzone (tablesOf (now (zones .entry)) (now (owners .entry)) (now (units .entry)) (now (accounts .entry)) (now (loads .entry)) (now (reservations .entry))) charges credits ⌝ }
+{
+    let counts = counts::judge_counts(
+        zones.len(),
+        owners.len(),
+        units.len(),
+        accounts.len(),
+        loads.len(),
+        reservations.len(),
+    );
+    let room = turns::judge_room(counts, owners.len(), accounts.len(), charges, credits);
+    let head = turns::judge_head(room, month, days, nonzone);
+    turns::judge_tables(
+        head,
+        days,
+        zones,
+        owners,
+        units,
+        accounts,
+        loads,
+        reservations,
+    )
+}

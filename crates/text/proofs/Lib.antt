@@ -1,0 +1,6 @@
+pub mod Numbers
+pub mod Below
+pub mod Lines
+pub mod Stores
+pub mod Places
+pub mod Pieces

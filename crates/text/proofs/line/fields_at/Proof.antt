@@ -1,0 +1,72 @@
+use mathlib.Core.Path.{_≡_, refl, sym, ap, _∙_}
+use mathlib.Core.Logic.{⊎-elim}
+use Prim.Native.Nat.{ℕ, zero, suc, _≤_, _<_, _+_, _*_, _/_, _%_, _-_, _^_, min}
+use native.Mathlib.Numerals.{add-one}
+use native.Mathlib.Omega.{arith}
+use native.Mathlib.Nat.{pos-of-ne-zero}
+use lib.ListN.{length, drop}
+use Rattle.text.specs.Lines.{fields}
+use Rattle.text.proofs.Places.{Partly, partly-start, fields-missing, fields-next, fields-end}
+use borrow.Author.Needs.{needs}
+use Rattle.text.proofs.line.fields_at.Statement.{statement}
+use Rattle.text.proofs.line.fields_at.Tie as tie
+use Rattle.text.proofs.line.fields_at.Reads as reads
+use Rattle.text.proofs.line.fields_at.Lts as lts
+use Rattle.text.proofs.line.field_at.Reads as field-at-reads
+
+abbrev Inv-loop : tie.InvT-loop
+Inv-loop text at width i₀ left₀ i left =
+    (0 < i) × (i ≤ length text) × Partly (fields width (drop at text)) (fields left (drop i text))
+
+abbrev μ-loop : tie.MeasureT-loop
+μ-loop text at width i₀ left₀ i left = left
+
+-- src/line.rt:55:5
+loop-holds : tie.Need-loop-holds Inv-loop μ-loop
+loop-holds c = (c .before .pre .0, c .before .pre .1, partly-start _)
+
+-- src/line.rt:56:9
+sub-left : tie.Need-sub-left Inv-loop μ-loop
+sub-left c = search needs
+
+-- src/line.rt:57:13
+field-at-requires : tie.Need-field-at-requires Inv-loop μ-loop
+field-at-requires c κs = search needs
+
+-- src/line.rt:60:13
+returns : tie.Need-returns Inv-loop μ-loop
+returns c =
+    fields-missing (c .before .before .before .before .before .args .text .now) _ (c .before .before .before .loop .i) (c .before .before .before .loop .left) (c .before .before .before .loop .inv .2)
+    (c .before .before .loop-test .taken) (c .before .field-at .result) (c .before .field-at .ensures) (c .if1 .taken)
+
+-- src/line.rt:55:5
+loop-less : tie.Need-loop-less Inv-loop μ-loop
+loop-less c = search needs
+
+-- src/line.rt:55:5
+loop-again : tie.Need-loop-again Inv-loop μ-loop
+loop-again c =
+    (pos-of-ne-zero (c .if1 .left)
+    , c .before .field-at .ensures .inside
+    , fields-next (c .before .before .before .before .before .args .text .now) _ (c .before .before .before .loop .i) (c .before .before .before .loop .left) (c .before .before .before .loop .inv .2)
+    (c .before .before .loop-test .taken) (c .before .field-at .result) (c .before .field-at .ensures) (c .if1 .left))
+
+-- src/line.rt:49:1
+returns-2 : tie.Need-returns-2 Inv-loop μ-loop
+returns-2 c =
+    fields-end (c .before .before .before .args .text .now) _ (c .before .loop .i) (c .before .loop .left) (c .before .loop .inv .2)
+    (c .before .loop .inv .0) (c .before .loop .inv .1) (c .loop-test .left)
+
+pub fields-at-spec : {M : Type 1} → statement M
+fields-at-spec =
+    tie.close
+    (tie.spec
+    Inv-loop
+    μ-loop
+    loop-holds
+    sub-left
+    field-at-requires
+    returns
+    loop-less
+    loop-again
+    returns-2)

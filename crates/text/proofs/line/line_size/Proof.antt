@@ -1,0 +1,39 @@
+use mathlib.Core.Path.{_≡_, refl, sym, ap, _∙_}
+use mathlib.Core.Logic.{⊎-elim}
+use Prim.Native.Nat.{ℕ, zero, suc, _≤_, _<_, _+_, _*_, _/_, _%_, _-_, _^_, min}
+use native.Mathlib.Numerals.{add-one}
+use native.Mathlib.Omega.{arith}
+use lib.ListN.{length, take, drop}
+use Rattle.text.proofs.Pieces.{length-key}
+use borrow.Author.Needs.{needs}
+use Rattle.text.proofs.line.line_size.Statement.{statement}
+use Rattle.text.proofs.line.line_size.Tie as tie
+use Rattle.text.proofs.line.line_size.Reads as reads
+use Rattle.text.proofs.line.line_size.Lts as lts
+use Rattle.text.proofs.line.fields_size.Reads as fields-size-reads
+use Rattle.text.proofs.number.add_capped.Reads as add-capped-reads
+
+-- src/line.rt:150:43
+add-add-capped : tie.Need-add-add-capped
+add-add-capped c = search needs
+
+-- src/line.rt:150:9
+add-capped-requires : tie.Need-add-capped-requires
+add-capped-requires c κs = search needs
+
+-- src/line.rt:151:5
+fields-size-requires : tie.Need-fields-size-requires
+fields-size-requires c κs = search needs
+
+-- src/line.rt:146:1
+returns : tie.Need-returns
+returns c =
+    let a = c .before .before .before .before .args in
+    let size = length-key (a .key .now) (take (a .width) (drop (a .from) (a .words .now))) in
+    let one = c .before .add-capped .ensures in
+    let two = c .fields-size .ensures .capped in
+    record { capped = omega arith }
+
+pub line-size-spec : {M : Type 1} → statement M
+line-size-spec =
+    tie.close (tie.spec add-add-capped add-capped-requires fields-size-requires returns)

@@ -1,0 +1,57 @@
+use mathlib.Core.Path.{_≡_, refl, sym, ap, _∙_}
+use mathlib.Core.Logic.{⊎-elim}
+use Prim.Native.Nat.{ℕ, zero, suc, _≤_, _<_, _+_, _*_, _/_, _%_, _-_, _^_, min}
+use native.Mathlib.Numerals.{add-one}
+use native.Mathlib.Omega.{arith}
+use lib.ListN.{length, take, drop, length-set}
+use Rattle.text.proofs.Pieces.{length-key, put-keyed}
+use borrow.Author.Needs.{needs}
+use Rattle.text.proofs.line.put_line.Statement.{statement}
+use Rattle.text.proofs.line.put_line.Tie as tie
+use Rattle.text.proofs.line.put_line.Reads as reads
+use Rattle.text.proofs.line.put_line.Lts as lts
+use Rattle.text.proofs.line.put_bytes.Reads as put-bytes-reads
+use Rattle.text.proofs.line.put_fields.Reads as put-fields-reads
+
+-- src/line.rt:192:9
+put-bytes-requires : tie.Need-put-bytes-requires
+put-bytes-requires c κs = omega (arith, length-key (c .before .before .before .before .args .key .now) (take (c .before .before .before .before .args .width) (drop (c .before .before .before .before .args .from) (c .before .before .before .before .args .words .now))), c .before .before .before .before .pre .1)
+
+-- src/line.rt:193:5
+slice-write-out : tie.Need-slice-write-out
+slice-write-out c = omega (arith, length-key (c .before .before .before .before .before .before .before .args .key .now) (take (c .before .before .before .before .before .before .before .args .width) (drop (c .before .before .before .before .before .before .before .args .from) (c .before .before .before .before .before .before .before .args .words .now))), c .before .before .put-bytes .kept .1 .0, c .before .before .put-bytes .ensures .onward, c .before .before .before .before .before .before .before .pre .1)
+
+-- src/line.rt:194:41
+add-put-fields : tie.Need-add-put-fields
+add-put-fields c = omega (arith, length-key (c .before .before .before .before .before .before .before .before .args .key .now) (take (c .before .before .before .before .before .before .before .before .args .width) (drop (c .before .before .before .before .before .before .before .before .args .from) (c .before .before .before .before .before .before .before .before .args .words .now))), c .before .before .before .put-bytes .kept .1 .0, c .before .before .before .put-bytes .ensures .onward, c .before .before .before .before .before .before .before .before .pre .1, c .before .before .before .before .before .before .before .before .good)
+
+-- src/line.rt:194:5
+put-fields-requires : tie.Need-put-fields-requires
+put-fields-requires c κs =
+    let put = c .before .before .before .put-bytes in
+    (c .before .before .before .before .before .before .before .before .pre .0
+    , rw length-set (omega (arith, length-key (c .before .before .before .before .before .before .before .before .args .key .now) (take (c .before .before .before .before .before .before .before .before .args .width) (drop (c .before .before .before .before .before .before .before .before .args .from) (c .before .before .before .before .before .before .before .before .args .words .now))), put .kept .1 .0, put .ensures .onward, c .before .before .before .before .before .before .before .before .pre .1)))
+
+-- src/line.rt:188:1
+same-length : tie.Need-same-length
+same-length c = c .before .before .put-fields .kept .1 .1 .1 .0 ∙ length-set (c .before .before .before .before .before .before .put-bytes .last .1 .0) (c .before .before .before .before .before .before .put-bytes .result) 61 ∙ c .before .before .before .before .before .before .put-bytes .kept .1 .0
+
+-- src/line.rt:188:1
+returns : tie.Need-returns
+returns c =
+    let a = c .before .before .before .before .before .before .before .before .before .before .before .args in
+    let one = c .before .before .before .before .before .before .put-bytes in
+    let two = c .before .before .put-fields in
+    put-keyed (a .out .now) (a .at) (a .key .now) (take (a .width) (drop (a .from) (a .words .now))) (one .result) (two .result)
+    (one .last .1 .0) (two .last .1 .1 .1 .0) (one .ensures) (two .ensures)
+
+pub put-line-spec : {M : Type 1} → statement M
+put-line-spec =
+    tie.close
+    (tie.spec
+    put-bytes-requires
+    slice-write-out
+    add-put-fields
+    put-fields-requires
+    same-length
+    returns)

@@ -1,0 +1,36 @@
+use mathlib.Core.Path.{_≡_, refl, sym, ap, _∙_}
+use mathlib.Core.Logic.{⊎-elim}
+use Prim.Native.Nat.{ℕ, zero, suc, _≤_, _<_, _+_, _*_, _/_, _%_, _-_, _^_, min}
+use native.Mathlib.Numerals.{add-one}
+use native.Mathlib.Omega.{arith}
+use lib.ListN.{length, getD, set}
+use Rattle.text.proofs.Numbers.{digit-range}
+use borrow.Author.Needs.{needs}
+use Rattle.text.proofs.number.digit_of.Statement.{statement}
+use Rattle.text.proofs.number.digit_of.Tie as tie
+use Rattle.text.proofs.number.digit_of.Reads as reads
+use Rattle.text.proofs.number.digit_of.Lts as lts
+use Rattle.text.proofs.number.wide.Reads as wide-reads
+
+-- src/number.rt:41:5
+wide-requires : tie.Need-wide-requires
+wide-requires c κs = search needs
+
+-- src/number.rt:41:18
+wide-requires-2 : tie.Need-wide-requires-2
+wide-requires-2 c κs = search needs
+
+-- src/number.rt:41:5
+sub-result : tie.Need-sub-result
+sub-result c = omega (arith, digit-range (c .before .before .args .byte) (c .before .before .pre))
+
+-- src/number.rt:37:1
+returns : tie.Need-returns
+returns c =
+    let range = digit-range (c .before .before .args .byte) (c .before .before .pre) in
+    let one : c .before .wide .result ≡ c .before .before .args .byte = c .before .wide .ensures in
+    let zero-is : c .wide2 .result ≡ 48 = c .wide2 .ensures in
+    (omega arith, omega arith)
+
+pub digit-of-spec : {M : Type 1} → statement M
+digit-of-spec = tie.close (tie.spec wide-requires wide-requires-2 sub-result returns)

@@ -1,0 +1,49 @@
+use mathlib.Core.Path.{_≡_, refl, sym, ap, _∙_}
+use mathlib.Core.Logic.{⊎-elim}
+use Prim.Native.Nat.{ℕ, zero, suc, _≤_, _<_, _+_, _*_, _/_, _%_, _-_, _^_, min}
+use native.Mathlib.Numerals.{add-one}
+use native.Mathlib.Omega.{arith}
+use lib.ListN.{length, getD, set}
+use Rattle.text.specs.Numbers.{decimal}
+use Rattle.text.proofs.Numbers.{decimal-one, length-decimal, length-tenth}
+use borrow.Author.Needs.{needs}
+use Rattle.text.proofs.number.number_size.Statement.{statement}
+use Rattle.text.proofs.number.number_size.Tie as tie
+use Rattle.text.proofs.number.number_size.Reads as reads
+use Rattle.text.proofs.number.number_size.Lts as lts
+
+abbrev Inv-loop : tie.InvT-loop
+Inv-loop number size₀ left₀ size left = (size + length (decimal left) ≡ 1 + length (decimal number)) × (left < 2 ^ 64)
+
+abbrev μ-loop : tie.MeasureT-loop
+μ-loop number size₀ left₀ size left = left
+
+-- src/number.rt:81:5
+loop-holds : tie.Need-loop-holds Inv-loop μ-loop
+loop-holds c = (refl, c .fits .number .fits)
+
+-- src/number.rt:83:9
+add-size : tie.Need-add-size Inv-loop μ-loop
+add-size c = omega (arith, length-decimal (c .before .before .args .number))
+
+-- src/number.rt:81:5
+loop-less : tie.Need-loop-less Inv-loop μ-loop
+loop-less c = search needs
+
+-- src/number.rt:81:5
+loop-again : tie.Need-loop-again Inv-loop μ-loop
+loop-again c =
+    let l = c .before .loop in
+    let tenth : length (decimal (l .left)) ≡ length (decimal (l .left / 10)) + 1 = length-tenth (l .left) (c .loop-test .taken) (l .inv .1) in
+    (omega arith, omega arith)
+
+-- src/number.rt:76:1
+returns : tie.Need-returns Inv-loop μ-loop
+returns c =
+    let l = c .before .loop in
+    let one : length (decimal (l .left)) ≡ 1 = ap length (decimal-one (l .left) (c .loop-test .left)) in
+    omega arith
+
+pub number-size-spec : {M : Type 1} → statement M
+number-size-spec =
+    tie.close (tie.spec Inv-loop μ-loop loop-holds add-size loop-less loop-again returns)
