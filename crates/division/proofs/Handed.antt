@@ -1,18 +1,18 @@
 -- What the code stores is the shares: its whole is the sum of the weights (or 1, where the pot is 0), its keys stand in the
 -- order of the remainders, and the cents that it hands out are those left over.
 -- Assumes nothing.
-use mathlib.Core.Path.{_≡_, refl, sym, ap, ap₂, _∙_, subst}
+use mathlib.Core.Path.{_≡_, refl, sym, ap, ap₂, _∙_}
 use mathlib.Core.Logic.{_⊎_, inl, inr, ⊎-elim, _≢_}
 use mathlib.Core.Bool.{Bool, true, false, _&&_, _||_}
 use mathlib.Core.List.{List}
-use Prim.Native.Nat.{ℕ, _+_, _-_, _*_, _/_, _%_, _≤_, _<_, min}
-use native.Mathlib.Nat.{zero-mul, zero-div, zero-mod, le-of-eq, le-refl, le-trans, min-eq-left}
+use Prim.Native.Nat.{ℕ, _+_, _-_, _*_, _/_, _%_, _^_, _≤_, _<_}
+use native.Mathlib.Nat.{zero-mul, zero-div, zero-mod, le-of-eq, le-trans}
 use native.Mathlib.Omega.{arith}
 use lib.Dec.{ltb, eqb}
-use lib.ListN.{length, take, length-take}
+use lib.ListN.{length, take}
 use lib.Seq.{getD-take, length-take-le}
-use borrow.Author.Tests.{lt-ltb, le-ltb, eq-eqb, ne-eqb, ltb-false, eqb-false}
-use Rattle.lists.specs.Sums.{sumTo, at, total, bit, count, rank, largestFirst}
+use borrow.Author.Tests.{lt-ltb, le-ltb, eq-eqb, ne-eqb, ltb-false}
+use Rattle.lists.specs.Sums.{sumTo, at, total, bit, rank, largestFirst}
 use Rattle.lists.specs.Entries.{put}
 use Rattle.lists.proofs.Sums.{sum-eq, neither}
 use Rattle.lists.proofs.Entries.{length-put, at-put, put-eq, put-over}
@@ -20,7 +20,7 @@ use Rattle.lists.proofs.Ranks.{lt-or-le, larger-first, lower-first, smaller-lat
 use Rattle.answer.proofs.Turns.{look-none, zero-or-not}
 use Rattle.division.specs.Limits.{potLimit, weightLimit, mostWeights, sizeRefusal}
 use Rattle.division.specs.Shares.{quotient, remainder, leftover, comesBefore, getsCent, share}
-use Rattle.division.proofs.Bounds.{cents-fit}
+use Rattle.division.proofs.Bounds.{cents-fit, rest-fits}
 use Rattle.division.specs.Steps.{Base, CutDown, centsOf, keyOf, larger, handed}
 
 -- what is known of a pot and a sum of weights that are not refused
@@ -149,14 +149,17 @@ module _
   out-long = ap length (cut .cents) ∙ length-put (length weights) (centsOf pot weights whole) out
 
   -- what `hand_out` asks of the words that it is lent
-  pub ready : (length (take (length weights) keys′) ≤ length out′) × ((i : ℕ) → i < length (take (length weights) keys′) → at out′ i ≤ potLimit)
+  pub ready : (length (take (length weights) keys′) ≤ length out′)
+    × ((i : ℕ) → i < length (take (length weights) keys′) → (at out′ i ≤ potLimit) × (at (take (length weights) keys′) i < 2 ^ 63))
   ready =
       (rw (placed-long, out-long) room
       , λ i h.
         let b : i < length weights = rw placed-long at h in
-        le-trans
-        (le-of-eq (ap (λ l. at l i) (cut .cents) ∙ at-put (length weights) (centsOf pot weights whole) out room i b))
-        (le-trans (cents-fit pot weights whole (base-of pot weights whole size is-whole) i b) (size .pot-fits)))
+        let base = base-of pot weights whole size is-whole in
+        (le-trans
+          (le-of-eq (ap (λ l. at l i) (cut .cents) ∙ at-put (length weights) (centsOf pot weights whole) out room i b))
+          (le-trans (cents-fit pot weights whole base i b) (size .pot-fits))
+        , omega (arith, key-at i b, rest-is i, rest-fits pot weights whole base i, base .whole-fits)))
 
   handed-is : (i : ℕ) → i < length weights
     → handed (pot - given) (take (length weights) keys′) out′ i ≡ share pot weights i

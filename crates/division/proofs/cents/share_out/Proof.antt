@@ -1,21 +1,17 @@
 -- `division::cents::share_out` meets its contract: what its two loops store is the shares.
 -- Assumes nothing.
 use mathlib.Core.Path.{_≡_, refl, sym, ap, ap₂, _∙_, subst}
-use mathlib.Core.List.{List}
-use Prim.Native.Nat.{ℕ, _≤_, _<_, _+_}
-use native.Mathlib.Nat.{le-of-eq, le-trans, div-le-of-le-mul}
+use Prim.Native.Nat.{_+_}
+use native.Mathlib.Nat.{le-of-eq, le-trans}
 use native.Mathlib.Omega.{arith}
 use lib.Dec.{eqb}
-use lib.ListN.{length, take}
 use mir.Val.{boolByte}
-use borrow.Author.Needs.{needs}
-use Rattle.lists.specs.Sums.{at, bit, total}
+use Rattle.lists.specs.Sums.{bit, total}
 use Rattle.lists.proofs.Sums.{bit-le}
-use Rattle.lists.proofs.Entries.{at-put}
 use Rattle.division.specs.Limits.{sizeRefusal}
-use Rattle.division.specs.Steps.{Base, centsOf}
+use Rattle.division.specs.Steps.{Base}
 use Rattle.division.proofs.Bits.{bit-of}
-use Rattle.division.proofs.Bounds.{given-within, cents-fit}
+use Rattle.division.proofs.Bounds.{given-within}
 use Rattle.division.proofs.Handed.{Sized, sized, base-of, placed-long, ready, shared-out}
 use Rattle.division.proofs.cents.share_out.Statement.{statement}
 use Rattle.division.proofs.cents.share_out.Tie as tie
@@ -45,7 +41,7 @@ slice-aggregate-cut-down c = refl
 cut-down-requires : tie.Need-cut-down-requires
 cut-down-requires c κs =
     let start = c .before .before .before .before in
-    (base-at start, (start .pre .1 .0, start .pre .1 .1, start .pre .1 .0))
+    (base-at start, record { few = start .pre .1 .0; cents-room = start .pre .1 .1; keys-room = start .pre .1 .0 })
 
 sub-hand-out : tie.Need-sub-hand-out
 sub-hand-out c =

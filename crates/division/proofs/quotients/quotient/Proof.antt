@@ -1,46 +1,54 @@
--- `division::quotients::quotient` meets its contract: quotient and remainder so far are those of the pot's digits passed.
+-- `division::quotients::quotient` meets its contract: quotient and rest so far are those of the pot's digits passed.
 -- Assumes nothing.
-use mathlib.Core.Path.{_≡_, refl, sym, ap, _∙_}
-use Prim.Native.Nat.{ℕ, _≤_, _<_, _+_, _*_, _/_, _%_, _-_, _^_}
-use native.Mathlib.Nat.{div-one, mul-le-mul}
+use Prim.Native.Nat.{_≤_, _*_, _/_, _%_, _-_, _^_}
+use native.Mathlib.Nat.{mul-le-mul-left, le-refl}
 use native.Mathlib.Omega.{arith}
 use borrow.Author.Needs.{needs}
-use lib.Count.{leadingZeros, leading-le}
-use lib.Pow.{shr-le}
-use Rattle.division.proofs.Doubling.{one-digit, no-digits, doubled, within, quotient-is, remainder-is}
+use lib.Count.{leading-le}
+use Rattle.division.specs.Steps.{Steady}
+use Rattle.division.proofs.Doubling.{Stretch, stretch, no-digits, Passed, passed-none, passed-more, passed-all, cents-fit, steady-at, quotient-is}
 use Rattle.division.proofs.quotients.quotient.Statement.{statement}
 use Rattle.division.proofs.quotients.quotient.Tie as tie
 
 abbrev Inv-loop : tie.InvT-loop
-Inv-loop pot weight whole cents₀ rest₀ left₀ cents rest left =
-    (left ≤ 64) × (cents * whole + rest ≡ pot / 2 ^ left * weight) × (rest < whole)
+Inv-loop pot weight whole factor stretched gain part₀ left₀ part left =
+    (left ≤ 64) × Passed (pot / 2 ^ left) gain stretched (part .cents) (part .rest)
 
 abbrev μ-loop : tie.MeasureT-loop
-μ-loop pot weight whole cents₀ rest₀ left₀ cents rest left = left
+μ-loop pot weight whole factor stretched gain part₀ left₀ part left = left
 
--- the quotient so far is at most the pot
-small : (c : tie.At-loop Inv-loop μ-loop) → c .loop .cents ≤ c .before .args .pot
-small c =
-    within (c .loop .cents) (c .before .args .whole) (c .loop .rest) (c .before .args .pot / 2 ^ c .loop .left) (c .before .args .weight)
-    (c .loop .inv .1) (c .before .args .pot) (shr-le (c .before .args .pot) (c .loop .left)) (c .before .pre .1) (c .before .pre .2)
+wide : (c : tie.Start Inv-loop μ-loop) → Stretch (2 ^ 62 / c .args .whole) (c .args .whole)
+wide c = stretch (c .args .whole) (c .pre .2) (c .pre .3)
 
--- the weight comes on top once at most
-digit-weight : (c : tie.In-loop Inv-loop μ-loop)
-  → c .before .before .args .pot / 2 ^ (c .before .loop .left - 1) % 2 * c .before .before .args .weight ≤ c .before .before .args .whole
-digit-weight c =
+steady : (c : tie.In-loop Inv-loop μ-loop)
+  → Steady (c .before .loop .part .cents) (c .before .loop .part .rest)
+    (c .before .before .args .pot / 2 ^ (c .before .loop .left - 1) % 2)
+    (2 ^ 62 / c .before .before .args .whole * c .before .before .args .weight)
+    (2 ^ 62 / c .before .before .args .whole * c .before .before .args .whole)
+steady c =
     let start = c .before .before in
-    let digit : start .args .pot / 2 ^ (c .before .loop .left - 1) % 2 ≤ 1 = omega arith in
-    let most : start .args .pot / 2 ^ (c .before .loop .left - 1) % 2 * start .args .weight ≤ 1 * start .args .whole =
-          mul-le-mul digit (start .pre .1) in
-    omega arith
+    steady-at (2 ^ 62 / start .args .whole) (start .args .weight) (start .args .whole) (wide start) (start .pre .1)
+    (start .args .pot) (c .before .loop .left) (c .before .loop .part .cents) (c .before .loop .part .rest) (start .pre .0) (c .before .loop .inv .1)
+
+all-passed : (c : tie.After-loop Inv-loop μ-loop)
+  → Passed (c .before .before .args .pot) (2 ^ 62 / c .before .before .args .whole * c .before .before .args .weight)
+    (2 ^ 62 / c .before .before .args .whole * c .before .before .args .whole) (c .before .loop .part .cents) (c .before .loop .part .rest)
+all-passed c = passed-all (c .before .before .args .pot) (c .before .loop .left) _ _ _ _ (omega arith) (c .before .loop .inv .1)
+
+div-factor : tie.Need-div-factor Inv-loop μ-loop
+div-factor c = search needs
+
+mul-stretched : tie.Need-mul-stretched Inv-loop μ-loop
+mul-stretched c = omega (arith, wide c .fits)
+
+mul-gain : tie.Need-mul-gain Inv-loop μ-loop
+mul-gain c = omega (arith, wide c .fits, mul-le-mul-left (2 ^ 62 / c .args .whole) (c .pre .1))
 
 sub-left : tie.Need-sub-left Inv-loop μ-loop
 sub-left c = leading-le 64 (c .args .pot)
 
 loop-holds : tie.Need-loop-holds Inv-loop μ-loop
-loop-holds c =
-    let none : c .args .pot / 2 ^ (64 - leadingZeros 64 (c .args .pot)) ≡ 0 = no-digits (c .args .pot) (c .fits .pot .fits) in
-    (omega arith, omega (arith, ap (λ k. k * c .args .weight) none), c .pre .2)
+loop-holds c = (omega arith, passed-none _ _ _ (no-digits (c .args .pot) (c .fits .pot .fits)))
 
 sub-left-2 : tie.Need-sub-left-2 Inv-loop μ-loop
 sub-left-2 c = search needs
@@ -51,62 +59,29 @@ cast-digit c = search needs
 shr-digit : tie.Need-shr-digit Inv-loop μ-loop
 shr-digit c = search needs
 
-mul-cut-once : tie.Need-mul-cut-once Inv-loop μ-loop
-mul-cut-once c = search needs
-
-mul-cut-once-2 : tie.Need-mul-cut-once-2 Inv-loop μ-loop
-mul-cut-once-2 c = omega (arith, digit-weight c)
-
-add-cut-once : tie.Need-add-cut-once Inv-loop μ-loop
-add-cut-once c = omega (arith, digit-weight c)
-
-cut-once-requires : tie.Need-cut-once-requires Inv-loop μ-loop
-cut-once-requires c κs = omega (arith, digit-weight c)
-
-cut-once-requires-2 : tie.Need-cut-once-requires-2 Inv-loop μ-loop
-cut-once-requires-2 c κs = omega (arith, digit-weight (c .before), c .cut-once .ensures .adds-up)
-
-mul-cents : tie.Need-mul-cents Inv-loop μ-loop
-mul-cents c = omega (arith, small (c .before .before .before))
-
-add-cents : tie.Need-add-cents Inv-loop μ-loop
-add-cents c = omega (arith, small (c .before .before .before .before))
-
-add-cents-2 : tie.Need-add-cents-2 Inv-loop μ-loop
-add-cents-2 c = omega (arith, small (c .before .before .before .before .before))
+step-requires : tie.Need-step-requires Inv-loop μ-loop
+step-requires c κs = steady c
 
 loop-less : tie.Need-loop-less Inv-loop μ-loop
 loop-less c = search needs
 
 loop-again : tie.Need-loop-again Inv-loop μ-loop
 loop-again c =
-    let start = c .before .before .before .before .before .before .args in
-    let l = c .before .before .before .before .before .loop in
-    let one = c .before .before .before .cut-once in
-    let two = c .before .before .cut-once2 in
-    let back : l .left - 1 + 1 ≡ l .left = omega arith in
-    let next : start .pot / 2 ^ (l .left - 1) ≡ 2 * (start .pot / 2 ^ l .left) + start .pot / 2 ^ (l .left - 1) % 2 =
-          one-digit (start .pot) (l .left - 1)
-          ∙ ap (λ k. 2 * (start .pot / 2 ^ k) + start .pot / 2 ^ (l .left - 1) % 2) back in
-    (omega arith
-    , doubled (l .cents) (start .whole) (l .rest) (start .pot / 2 ^ l .left) (start .weight) (l .inv .1)
-      (start .pot / 2 ^ (l .left - 1) % 2) (start .pot / 2 ^ (l .left - 1))
-      (one .result .taken) (one .result .rest) (two .result .taken) (two .result .rest)
-      next (one .ensures) (two .ensures)
-    , two .ensures .below
-      (one .ensures .below-twice
-        (omega (arith, digit-weight (c .before .before .before .before), l .inv .2))))
+    let l = c .before .before .loop in
+    (omega arith, passed-more (c .before .before .before .args .pot) (l .left) _ _ _ _ _ _ (c .before .loop-test .taken) (l .inv .1) (c .step .ensures))
+
+settle-requires : tie.Need-settle-requires Inv-loop μ-loop
+settle-requires c κs =
+    let start = c .before .before in
+    (cents-fit (2 ^ 62 / start .args .whole) (start .args .weight) (start .args .whole) (wide start) (start .pre .1)
+      (start .args .pot) (start .args .pot) _ _ (start .pre .0) (le-refl (start .args .pot)) (all-passed c)
+    , wide start .positive)
 
 returns : tie.Need-returns Inv-loop μ-loop
 returns c =
-    let start = c .before .before .args in
-    let l = c .before .loop in
-    let none : l .left ≡ 0 = omega arith in
-    let whole-pot : start .pot / 2 ^ l .left ≡ start .pot = ap (λ k. start .pot / 2 ^ k) none ∙ div-one (start .pot) in
-    let holds : l .cents * start .whole + l .rest ≡ start .pot * start .weight =
-          l .inv .1 ∙ ap (λ k. k * start .weight) whole-pot in
-    (quotient-is (l .cents) (start .whole) (l .rest) (start .pot) (start .weight) holds (l .inv .2)
-    , remainder-is (l .cents) (start .whole) (l .rest) (start .pot) (start .weight) holds (l .inv .2))
+    let start = c .before .before .before in
+    quotient-is (2 ^ 62 / start .args .whole) (start .args .weight) (start .args .whole) (wide start) (start .pre .1)
+    (start .args .pot) _ _ (all-passed (c .before)) _ _ (start .pre .3) (c .settle .ensures)
 
 pub quotient-spec : {M : Type 1} → statement M
 quotient-spec =
@@ -114,19 +89,16 @@ quotient-spec =
     (tie.spec
     Inv-loop
     μ-loop
+    div-factor
+    mul-stretched
+    mul-gain
     sub-left
     loop-holds
     sub-left-2
     cast-digit
     shr-digit
-    mul-cut-once
-    mul-cut-once-2
-    add-cut-once
-    cut-once-requires
-    cut-once-requires-2
-    mul-cents
-    add-cents
-    add-cents-2
+    step-requires
     loop-less
     loop-again
+    settle-requires
     returns)
