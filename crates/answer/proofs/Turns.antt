@@ -77,7 +77,7 @@ unfolding first
 first-all table f zero e i h = absurd (not-suc-le-zero h)
 first-all table f (suc n) e i h =
     let parts : (first table f n .number ≡ 0) × (refuse (f n) table n .number ≡ 0) =
-          then-none (first table f n) (refuse (f n) table n) e in
+    then-none (first table f n) (refuse (f n) table n) e in
     ⊎-elim
     (λ (q : i ≡ n). ap f q ∙ sym (refuse-number (f n) table n) ∙ parts .1)
     (λ (b : i < n). first-all table f n (parts .0) i b)
@@ -96,20 +96,20 @@ first-refused table f zero d = absurd (d refl)
 first-refused table f (suc n) d =
     ⊎-elim
     (λ (z : first table f n .number ≡ 0).
-      let second : (first table f n then refuse (f n) table n) ≡ refuse (f n) table n =
-            then-second (first table f n) (refuse (f n) table n) z in
-      let bad : f n ≢ 0 = λ e. d (ap (λ (r : Answer). r .number) second ∙ refuse-number (f n) table n ∙ e) in
-      subst (RefusedAt table f (suc n)) (sym (second ∙ refuse-some (f n) table n bad))
-      (record { at-table = refl; at-row = lt-suc-self n; its-number = refl; earlier-fine = first-all table f n z }))
+    let second : (first table f n then refuse (f n) table n) ≡ refuse (f n) table n =
+    then-second (first table f n) (refuse (f n) table n) z in
+    let bad : f n ≢ 0 = λ e. d (ap (λ (r : Answer). r .number) second ∙ refuse-number (f n) table n ∙ e) in
+    subst (RefusedAt table f (suc n)) (sym (second ∙ refuse-some (f n) table n bad))
+    (record { at-table = refl; at-row = lt-suc-self n; its-number = refl; earlier-fine = first-all table f n z }))
     (λ (e : first table f n .number ≢ 0).
-      let before : RefusedAt table f n (first table f n) = first-refused table f n e in
-      subst (RefusedAt table f (suc n)) (sym (then-first (first table f n) (refuse (f n) table n) e))
-      (record {
-        at-table = before .at-table;
-        at-row = le-step (before .at-row);
-        its-number = before .its-number;
-        earlier-fine = before .earlier-fine
-      }))
+    let before : RefusedAt table f n (first table f n) = first-refused table f n e in
+    subst (RefusedAt table f (suc n)) (sym (then-first (first table f n) (refuse (f n) table n) e))
+    (record {
+      at-table = before .at-table;
+      at-row = le-step (before .at-row);
+      its-number = before .its-number;
+      earlier-fine = before .earlier-fine;
+    }))
     (zero-or-not (first table f n .number))
 
 pub first-suc : (table : ℕ) (f : ℕ → ℕ) (n : ℕ) → first table f (n + 1) ≡ (first table f n then refuse (f n) table n)

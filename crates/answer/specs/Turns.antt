@@ -18,7 +18,6 @@ unfoldable pub refuse : ℕ → ℕ → ℕ → Answer
 refuse number table row = cond (eqb number 0) accepted (record { number = number; table = table; row = row })
 
 infixl 20 _then_
-
 -- the first of two answers that refuses
 unfoldable pub _then_ : Answer → Answer → Answer
 a then b = cond (eqb (a .number) 0) b a

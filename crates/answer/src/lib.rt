@@ -11,27 +11,46 @@ pub struct Answer {
 
 // The number of an accepted call, and of each refusal.
 pub const ACCEPTED: u64 = 0;
+
 pub const COUNT: u64 = 1;
+
 pub const ROOM: u64 = 2;
+
 pub const MONTH: u64 = 3;
+
 pub const RANGE: u64 = 4;
+
 pub const ORDER: u64 = 5;
+
 pub const LINK: u64 = 6;
+
 pub const PAIR: u64 = 7;
+
 pub const BIG: u64 = 8;
+
 pub const BASE: u64 = 9;
+
 pub const TEXT: u64 = 10;
 
 // The number of each table, of the two outputs, and of the divisions of a month.
 pub const HEAD: u64 = 0;
+
 pub const ZONES: u64 = 1;
+
 pub const OWNERS: u64 = 2;
+
 pub const UNITS: u64 = 3;
+
 pub const ACCOUNTS: u64 = 4;
+
 pub const LOADS: u64 = 5;
+
 pub const RESERVATIONS: u64 = 6;
+
 pub const CHARGES: u64 = 7;
+
 pub const CREDITS: u64 = 8;
+
 pub const DIVISIONS: u64 = 9;
 
 // The answer with a number at a place; where the number is 0 nothing is refused and the place is 0 too.

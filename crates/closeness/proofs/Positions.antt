@@ -41,21 +41,27 @@ lowest (suc n) f g h =
     ⊎-elim
     (λ (only : n ≡ 0). (n, lt-suc-self n, λ k b. let e : k ≡ n = omega arith in rw e (le-refl (f n + g n))))
     (λ (more : 0 < n).
-      let found = lowest n f g more in
-      ⊎-elim
-      (λ (less : f n + g (found .0) < f (found .0) + g n).
-        (n, lt-suc-self n, λ k b.
+    let found = lowest n f g more in
+    ⊎-elim
+    (λ (less : f n + g (found .0) < f (found .0) + g n). (
+      n,
+      lt-suc-self n,
+      λ k b.
           ⊎-elim
           (λ (e : k ≡ n). rw e (le-refl (f n + g n)))
           (λ (c : k < n). omega (arith, found .2 k c))
-          (last-or-below n k b)))
-      (λ (least : f (found .0) + g n ≤ f n + g (found .0)).
-        (found .0, le-step (found .1), λ k b.
+          (last-or-below n k b),
+    ))
+    (λ (least : f (found .0) + g n ≤ f n + g (found .0)). (
+      found .0,
+      le-step (found .1),
+      λ k b.
           ⊎-elim
           (λ (e : k ≡ n). rw e least)
           (λ (c : k < n). found .2 k c)
-          (last-or-below n k b)))
-      (lt-or-le (f n + g (found .0)) (f (found .0) + g n)))
+          (last-or-below n k b),
+    ))
+    (lt-or-le (f n + g (found .0)) (f (found .0) + g n)))
     (eq-zero-or-pos n)
 
 -- sums whose entries agree except at one position
@@ -65,15 +71,15 @@ sum-but-one zero f g k h e = absurd (not-suc-le-zero h)
 sum-but-one (suc n) f g k h e =
     ⊎-elim
     (λ (q : k ≡ n).
-      let others : sumTo n f ≡ sumTo n g = sum-eq n f g (λ i b. e i (le-step b) (ne-of-lt (rw q b))) in
-      rw q (omega arith))
+    let others : sumTo n f ≡ sumTo n g = sum-eq n f g (λ i b. e i (le-step b) (ne-of-lt (rw q b))) in
+    rw q (omega arith))
     (λ (b : k < n).
-      omega (arith, sum-but-one n f g k b (λ i c. e i (le-step c)), e n (lt-suc-self n) (ne-of-gt b)))
+    omega (arith, sum-but-one n f g k b (λ i c. e i (le-step c)), e n (lt-suc-self n) (ne-of-gt b)))
     (last-or-below n k h)
 
 -- a sum over the entries of a list, after one of them is replaced
 pub sum-set : (n : ℕ) (f : ℕ → ℕ → ℕ) (l : List ℕ) (k v : ℕ) → length l ≡ n → k < n
-  → sumTo n (λ i. f i (at (set l k v) i)) + f k (at l k) ≡ sumTo n (λ i. f i (at l i)) + f k v
+    → sumTo n (λ i. f i (at (set l k v) i)) + f k (at l k) ≡ sumTo n (λ i. f i (at l i)) + f k v
 sum-set n f l k v long h =
     sum-but-one n (λ i. f i (at (set l k v) i)) (λ i. f i (at l i)) k h (λ i b d. ap (f i) (getD-set-other l k i v 0 d))
     ∙ ap (λ m. sumTo n (λ i. f i (at l i)) + f k m) (getD-set-same l k v 0 (rw long h))

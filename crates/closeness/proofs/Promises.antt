@@ -12,16 +12,16 @@ use Rattle.closeness.proofs.Exchange.{level-if-closest}
 
 -- no other list with that sum lies closer to the exact shares than one that passes the test
 pub level-closest : (pot : ℕ) (weights amounts : List ℕ) → 0 < total weights → length amounts ≡ length weights
-  → total amounts ≡ pot → level pot weights amounts ≡ true → Closest pot weights amounts
+    → total amounts ≡ pot → level pot weights amounts ≡ true → Closest pot weights amounts
 level-closest pot weights amounts some same whole = closest-if-level pot weights amounts some same whole
 
 -- a list to which no other with that sum lies closer passes the test
 pub closest-level : (pot : ℕ) (weights amounts : List ℕ) → 0 < total weights → length amounts ≡ length weights
-  → total amounts ≡ pot → Closest pot weights amounts → level pot weights amounts ≡ true
+    → total amounts ≡ pot → Closest pot weights amounts → level pot weights amounts ≡ true
 closest-level pot weights amounts some same whole = level-if-closest pot weights amounts some same whole
 
 -- each amount of a list that passes the test is less than one cent from its exact share
 pub level-within-a-cent : (pot : ℕ) (weights amounts : List ℕ) → 0 < total weights → length amounts ≡ length weights
-  → total amounts ≡ pot → level pot weights amounts ≡ true
-  → (i : ℕ) → i < length weights → distance pot weights amounts i < total weights
+    → total amounts ≡ pot → level pot weights amounts ≡ true
+    → (i : ℕ) → i < length weights → distance pot weights amounts i < total weights
 level-within-a-cent pot weights amounts some same whole = within-a-cent pot weights amounts some same whole

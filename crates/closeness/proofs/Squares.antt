@@ -29,11 +29,11 @@ squared-sum : (x y : ℕ) → squared x y + 2 * (x * y) ≡ x * x + y * y
 squared-sum x y =
     ⊎-elim
     (λ (l : x < y).
-      let more = le-dest (le-of-lt l) in
-      subst (λ z. squared x z + 2 * (x * z) ≡ x * x + z * z) (more .1) (squared-below x (more .0)))
+    let more = le-dest (le-of-lt l) in
+    subst (λ z. squared x z + 2 * (x * z) ≡ x * x + z * z) (more .1) (squared-below x (more .0)))
     (λ (l : y ≤ x).
-      let more = le-dest l in
-      subst (λ z. squared z y + 2 * (z * y) ≡ z * z + y * y) (more .1) (squared-above y (more .0)))
+    let more = le-dest l in
+    subst (λ z. squared z y + 2 * (z * y) ≡ z * z + y * y) (more .1) (squared-above y (more .0)))
     (lt-or-le x y)
 
 -- a multiple of w is 0 or at least w
@@ -62,17 +62,17 @@ pub supported : (w u y x a b : ℕ) → u + x ≤ w * a + y → w * a + y ≤ u 
 supported w u y x a b low near =
     ⊎-elim
     (λ (l : a < b).
-      let more = le-dest (le-of-lt l) in
-      subst (λ z. Supported w u y x a z) (more .1) (supported-above w u y x a (more .0) low))
+    let more = le-dest (le-of-lt l) in
+    subst (λ z. Supported w u y x a z) (more .1) (supported-above w u y x a (more .0) low))
     (λ (l : b ≤ a).
-      let more = le-dest l in
-      subst (λ z. w * z + y ≤ u + x + w → Supported w u y x z b) (more .1) (supported-below w u y x b (more .0)) near)
+    let more = le-dest l in
+    subst (λ z. w * z + y ≤ u + x + w → Supported w u y x z b) (more .1) (supported-below w u y x b (more .0)) near)
     (lt-or-le a b)
 
 -- a unit that goes from a to b brings the two together closer to x and y, where w · a stands more than w further above x
 -- than w · b above y
 pub step-closer : (w a b x y : ℕ) → 0 < w → 0 < a → w * b + x + w < w * a + y
-  → squared (w * (a - 1)) x + squared (w * (b + 1)) y < squared (w * a) x + squared (w * b) y
+    → squared (w * (a - 1)) x + squared (w * (b + 1)) y < squared (w * a) x + squared (w * b) y
 step-closer w zero b x y some holds far = absurd (not-suc-le-zero holds)
 step-closer w (suc a) b x y some holds far =
     let scaled : w * (w * b + x + w) < w * (w * suc a + y) = mul-lt-mul-of-pos-left far some in

@@ -24,10 +24,10 @@ squares pot weights amounts =
 -- "no other such list with that sum lies closer to the exact shares": among all lists of whole numbers of the same length
 pub record Closest (pot : ℕ) (weights amounts : List ℕ) : Type 0 where
   pub none-closer : (others : List ℕ) → length others ≡ length weights → total others ≡ total amounts
-    → squares pot weights amounts ≤ squares pot weights others
+      → squares pot weights amounts ≤ squares pot weights others
 
 -- the test that finds them: no amount stands more than a whole cent above its exact share than another does
 unfoldable pub level : ℕ → List ℕ → List ℕ → Bool
 level pot weights amounts =
     every (length weights) (λ i. every (length weights) (λ j.
-      leb (total weights * at amounts i + pot * at weights j) (total weights * at amounts j + pot * at weights i + total weights)))
+    leb (total weights * at amounts i + pot * at weights j) (total weights * at amounts j + pot * at weights i + total weights)))

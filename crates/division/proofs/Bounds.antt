@@ -23,19 +23,19 @@ module _ (pot : ℕ) (weights : List ℕ) (whole : ℕ) (base : Base pot weights
   given-fits n h =
       le-trans
       (sum-le n (centsOf pot weights whole) (λ i. potLimit)
-        (λ i b. le-trans (cents-fit i (le-trans b h)) (base .pot-fits)))
+      (λ i b. le-trans (cents-fit i (le-trans b h)) (base .pot-fits)))
       (le-of-eq (sum-const n potLimit))
 
   -- what is given out is at most the pot: each weight's cents times the whole are at most pot times weight
   pub given-within : sumTo (length weights) (centsOf pot weights whole) ≤ pot
   given-within =
       let each : whole * sumTo (length weights) (centsOf pot weights whole) ≤ pot * sumTo (length weights) (at weights) =
-            le-trans
-            (le-of-eq (sym (sum-mul (length weights) whole (centsOf pot weights whole))))
-            (le-trans
-            (sum-le (length weights) (λ i. whole * centsOf pot weights whole i) (λ i. pot * at weights i)
-              (λ i b. mul-div-le (pot * at weights i) whole))
-            (le-of-eq (sum-mul (length weights) pot (at weights)))) in
+      le-trans
+      (le-of-eq (sym (sum-mul (length weights) whole (centsOf pot weights whole))))
+      (le-trans
+      (sum-le (length weights) (λ i. whole * centsOf pot weights whole i) (λ i. pot * at weights i)
+      (λ i b. mul-div-le (pot * at weights i) whole))
+      (le-of-eq (sum-mul (length weights) pot (at weights)))) in
       le-of-mul-le-mul-left
       (le-trans each (le-trans (mul-le-mul-left pot (base .adds-up)) (le-of-eq (mul-comm pot whole))))
       (base .positive)

@@ -40,7 +40,7 @@ module _ (cents rest digit gain whole added : ℕ) (steady : Steady cents rest d
   stepped =
       record {
         adds-up = omega (arith, taken-within);
-        rest-fits = omega (arith, added-fits, taken-within, mul-le-mul-left ((2 * rest + added) / 2 ^ 62) (steady .whole-near))
+        rest-fits = omega (arith, added-fits, taken-within, mul-le-mul-left ((2 * rest + added) / 2 ^ 62) (steady .whole-near));
       }
 
 -- a mask of ones lets everything through, and one of zeros nothing
@@ -48,12 +48,12 @@ pub let-through : (digit gain : ℕ) → digit ≤ 1 → gain < 2 ^ 64 → bitAn
 let-through digit gain one fits =
     ⊎-elim
     (λ (none : digit < 1).
-      let zero : digit ≡ 0 = omega arith in
-      ap (λ d. bitAnd gain (d * (2 ^ 64 - 1))) zero ∙ and-zero-r gain ∙ (let e : 0 ≡ digit * gain = omega (arith, ap (λ d. d * gain) zero) in e))
+    let zero : digit ≡ 0 = omega arith in
+    ap (λ d. bitAnd gain (d * (2 ^ 64 - 1))) zero ∙ and-zero-r gain ∙ (let e : 0 ≡ digit * gain = omega (arith, ap (λ d. d * gain) zero) in e))
     (λ (some : 1 ≤ digit).
-      let is-one : digit ≡ 1 = omega arith in
-      ap (λ d. bitAnd gain (d * (2 ^ 64 - 1))) is-one ∙ and-mask gain 64 ∙ mod-eq-of-lt fits
-      ∙ (let e : gain ≡ digit * gain = omega (arith, ap (λ d. d * gain) is-one) in e))
+    let is-one : digit ≡ 1 = omega arith in
+    ap (λ d. bitAnd gain (d * (2 ^ 64 - 1))) is-one ∙ and-mask gain 64 ∙ mod-eq-of-lt fits
+    ∙ (let e : gain ≡ digit * gain = omega (arith, ap (λ d. d * gain) is-one) in e))
     (lt-or-le digit 1)
 
 -- the factor brings the whole close to 2^62
@@ -65,17 +65,17 @@ pub record Stretch (factor whole : ℕ) : Type 0 where
 pub stretch : (whole : ℕ) → 0 < whole → whole ≤ weightLimit → Stretch (2 ^ 62 / whole) whole
 stretch whole positive fits =
     let near : 2 ^ 62 ≤ 2 ^ 62 / whole * whole + weightLimit =
-          omega (arith, div-add-mod' (2 ^ 62) whole, mod-lt (2 ^ 62) positive) in
+    omega (arith, div-add-mod' (2 ^ 62) whole, mod-lt (2 ^ 62) positive) in
     record {
       positive =
-        ⊎-elim
-        (λ (goes : 0 < 2 ^ 62 / whole). goes)
-        (λ (none : 2 ^ 62 / whole ≤ 0).
+          ⊎-elim
+          (λ (goes : 0 < 2 ^ 62 / whole). goes)
+          (λ (none : 2 ^ 62 / whole ≤ 0).
           let nothing : 2 ^ 62 / whole * whole ≤ 0 * whole = mul-le-mul none (le-refl whole) in
           omega arith)
-        (lt-or-le 0 (2 ^ 62 / whole));
+          (lt-or-le 0 (2 ^ 62 / whole));
       fits = div-mul-le-self (2 ^ 62) whole;
-      near = near
+      near = near;
     }
 
 -- where a long division stands after the digits `high` of the pot
@@ -88,16 +88,16 @@ passed-none high weight whole none = record { adds-up = omega (arith, ap (λ k. 
 
 -- one digit more: the law of every step
 pub passed-more : (pot left weight whole cents rest cents′ rest′ : ℕ) → 0 < left
-  → Passed (pot / 2 ^ left) weight whole cents rest
-  → Stepped cents rest (pot / 2 ^ (left - 1) % 2 * weight) whole cents′ rest′
-  → Passed (pot / 2 ^ (left - 1)) weight whole cents′ rest′
+    → Passed (pot / 2 ^ left) weight whole cents rest
+    → Stepped cents rest (pot / 2 ^ (left - 1) % 2 * weight) whole cents′ rest′
+    → Passed (pot / 2 ^ (left - 1)) weight whole cents′ rest′
 passed-more pot left weight whole cents rest cents′ rest′ some passed stepped =
     let back : left - 1 + 1 ≡ left = omega arith in
     let next : pot / 2 ^ (left - 1) ≡ 2 * (pot / 2 ^ left) + pot / 2 ^ (left - 1) % 2 =
-          one-digit pot (left - 1) ∙ ap (λ k. 2 * (pot / 2 ^ k) + pot / 2 ^ (left - 1) % 2) back in
+    one-digit pot (left - 1) ∙ ap (λ k. 2 * (pot / 2 ^ k) + pot / 2 ^ (left - 1) % 2) back in
     record {
       adds-up = omega (arith, ap (λ k. k * weight) next, passed .adds-up, stepped .adds-up);
-      rest-fits = stepped .rest-fits
+      rest-fits = stepped .rest-fits;
     }
 
 -- .. and the last
@@ -109,8 +109,8 @@ passed-all pot left weight whole cents rest none passed =
 module _ (factor weight whole : ℕ) (wide : Stretch factor whole) (part : weight ≤ whole) where
   -- the quotient is never above the pot
   pub cents-fit : (pot high cents rest : ℕ) → pot ≤ potLimit → high ≤ pot
-    → Passed high (factor * weight) (factor * whole) cents rest
-    → cents ≤ potLimit
+      → Passed high (factor * weight) (factor * whole) cents rest
+      → cents ≤ potLimit
   cents-fit pot high cents rest pot-fits h passed =
       let most : high * (factor * weight) ≤ pot * (factor * whole) = mul-le-mul h (mul-le-mul-left factor part) in
       let below : cents * (factor * whole) ≤ pot * (factor * whole) = omega (arith, passed .adds-up) in
@@ -119,8 +119,8 @@ module _ (factor weight whole : ℕ) (wide : Stretch factor whole) (part : weigh
 
   -- a step may be taken
   pub steady-at : (pot left cents rest : ℕ) → pot ≤ potLimit
-    → Passed (pot / 2 ^ left) (factor * weight) (factor * whole) cents rest
-    → Steady cents rest (pot / 2 ^ (left - 1) % 2) (factor * weight) (factor * whole)
+      → Passed (pot / 2 ^ left) (factor * weight) (factor * whole) cents rest
+      → Steady cents rest (pot / 2 ^ (left - 1) % 2) (factor * weight) (factor * whole)
   steady-at pot left cents rest pot-fits passed =
       record {
         cents-fit = cents-fit pot (pot / 2 ^ left) cents rest pot-fits (shr-le pot left) passed;
@@ -128,7 +128,7 @@ module _ (factor weight whole : ℕ) (wide : Stretch factor whole) (part : weigh
         one-digit = omega arith;
         gain-fits = mul-le-mul-left factor part;
         whole-fits = wide .fits;
-        whole-near = wide .near
+        whole-near = wide .near;
       }
 
   -- the rest is a multiple of the factor, and hardly above the whole
@@ -152,5 +152,5 @@ module _ (factor weight whole : ℕ) (wide : Stretch factor whole) (part : weigh
         let below : rest′ < whole = settled .below (hardly-whole fits) in
         record {
           cents-are = sym (digits-div cents′ below) ∙ ap (λ n. n / whole) holds;
-          rest-is = sym (digits-mod cents′ below) ∙ ap (λ n. n % whole) holds
+          rest-is = sym (digits-mod cents′ below) ∙ ap (λ n. n % whole) holds;
         }

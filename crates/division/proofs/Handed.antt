@@ -42,7 +42,7 @@ sized pot w e =
     record {
       pot-fits = ltb-false potLimit pot (limits .0);
       sum-fits = ltb-false weightLimit w (limits .1);
-      zero-sum = λ z. let none : pot ≤ 0 = ltb-false 0 pot (not-both (ltb 0 pot) (eqb w 0) (baseless .0) (eq-eqb w 0 z)) in omega arith
+      zero-sum = λ z. let none : pot ≤ 0 = ltb-false 0 pot (not-both (ltb 0 pot) (eqb w 0) (baseless .0) (eq-eqb w 0 z)) in omega arith;
     }
 
 -- the whole that the code divides by is the sum, or 1 where the sum is 0 and so the pot is
@@ -69,15 +69,15 @@ module _ (pot w whole : ℕ) (size : Sized pot w) (is-whole : whole ≡ w + bit 
       same-or-none
 
 pub base-of : (pot : ℕ) (weights : List ℕ) (whole : ℕ) → Sized pot (total weights) → whole ≡ total weights + bit (eqb (total weights) 0)
-  → Base pot weights whole
+    → Base pot weights whole
 base-of pot weights whole size e =
     ⊎-elim
     (λ (z : total weights ≡ 0).
-      let one : whole ≡ total weights + 1 = e ∙ ap (λ t. total weights + bit t) (eq-eqb (total weights) 0 z) in
-      record { pot-fits = size .pot-fits; positive = omega arith; whole-fits = omega arith; adds-up = omega arith })
+    let one : whole ≡ total weights + 1 = e ∙ ap (λ t. total weights + bit t) (eq-eqb (total weights) 0 z) in
+    record { pot-fits = size .pot-fits; positive = omega arith; whole-fits = omega arith; adds-up = omega arith })
     (λ (d : total weights ≢ 0).
-      let same : whole ≡ total weights + 0 = e ∙ ap (λ t. total weights + bit t) (ne-eqb (total weights) 0 d) in
-      record { pot-fits = size .pot-fits; positive = omega arith; whole-fits = omega (arith, size .sum-fits); adds-up = omega arith })
+    let same : whole ≡ total weights + 0 = e ∙ ap (λ t. total weights + bit t) (ne-eqb (total weights) 0 d) in
+    record { pot-fits = size .pot-fits; positive = omega arith; whole-fits = omega (arith, size .sum-fits); adds-up = omega arith })
     (zero-or-not (total weights))
 
 -- keys are ordered as their remainders, lower position first among equals
@@ -86,92 +86,94 @@ keyed f i j bi bj =
     ⊎-elim
     (λ (l : f i < f j). lt-ltb (f i * 64 + (63 - i)) (f j * 64 + (63 - j)) (omega arith) ∙ sym (larger-first f j i l))
     (λ (g : f j ≤ f i).
-      ⊎-elim
-      (λ (l : f j < f i). le-ltb (f i * 64 + (63 - i)) (f j * 64 + (63 - j)) (omega arith) ∙ sym (smaller-later f j i l))
-      (λ (h : f i ≤ f j).
-        ⊎-elim
-        (λ (l : j < i). lt-ltb (f i * 64 + (63 - i)) (f j * 64 + (63 - j)) (omega arith) ∙ sym (lower-first f j i (omega arith) l))
-        (λ (l : i ≤ j). le-ltb (f i * 64 + (63 - i)) (f j * 64 + (63 - j)) (omega arith) ∙ sym (higher-later f j i (omega arith) l))
-        (lt-or-le j i))
-      (lt-or-le (f j) (f i)))
+    ⊎-elim
+    (λ (l : f j < f i). le-ltb (f i * 64 + (63 - i)) (f j * 64 + (63 - j)) (omega arith) ∙ sym (smaller-later f j i l))
+    (λ (h : f i ≤ f j).
+    ⊎-elim
+    (λ (l : j < i). lt-ltb (f i * 64 + (63 - i)) (f j * 64 + (63 - j)) (omega arith) ∙ sym (lower-first f j i (omega arith) l))
+    (λ (l : i ≤ j). le-ltb (f i * 64 + (63 - i)) (f j * 64 + (63 - j)) (omega arith) ∙ sym (higher-later f j i (omega arith) l))
+    (lt-or-le j i))
+    (lt-or-le (f j) (f i)))
     (lt-or-le (f i) (f j))
 
 module _
-  (pot : ℕ) (weights : List ℕ) (whole : ℕ) (out out′ keys keys′ : List ℕ) (given : ℕ)
-  (size : Sized pot (total weights)) (is-whole : whole ≡ total weights + bit (eqb (total weights) 0))
-  (few : length weights ≤ mostWeights) (room : length weights ≤ length out) (key-room : length weights ≤ length keys)
-  (cut : CutDown pot weights whole out out′ keys keys′ given)
+    (pot : ℕ) (weights : List ℕ) (whole : ℕ) (out out′ keys keys′ : List ℕ) (given : ℕ)
+    (size : Sized pot (total weights)) (is-whole : whole ≡ total weights + bit (eqb (total weights) 0))
+    (few : length weights ≤ mostWeights) (room : length weights ≤ length out) (key-room : length weights ≤ length keys)
+    (cut : CutDown pot weights whole out out′ keys keys′ given)
   where
-  cents-is : (i : ℕ) → centsOf pot weights whole i ≡ quotient pot weights i
-  unfolding quotient
-  cents-is i = same-quotient pot (total weights) whole size is-whole (at weights i)
+    cents-is : (i : ℕ) → centsOf pot weights whole i ≡ quotient pot weights i
+    unfolding quotient
+    cents-is i = same-quotient pot (total weights) whole size is-whole (at weights i)
 
-  rest-is : (i : ℕ) → pot * at weights i % whole ≡ remainder pot weights i
-  unfolding remainder
-  rest-is i = same-remainder pot (total weights) whole size is-whole (at weights i)
+    rest-is : (i : ℕ) → pot * at weights i % whole ≡ remainder pot weights i
+    unfolding remainder
+    rest-is i = same-remainder pot (total weights) whole size is-whole (at weights i)
 
-  pub left-is : pot - given ≡ leftover pot weights
-  unfolding leftover
-  left-is =
-      ap (λ k. pot - k)
-      (cut .given ∙ sum-eq (length weights) (centsOf pot weights whole) (quotient pot weights) (λ i b. cents-is i))
+    pub left-is : pot - given ≡ leftover pot weights
+    unfolding leftover
+    left-is =
+        ap (λ k. pot - k)
+        (cut .given ∙ sum-eq (length weights) (centsOf pot weights whole) (quotient pot weights) (λ i b. cents-is i))
 
-  pub keys-long : length keys′ ≡ length keys
-  keys-long = ap length (cut .placed) ∙ length-put (length weights) (keyOf pot weights whole) keys
+    pub keys-long : length keys′ ≡ length keys
+    keys-long = ap length (cut .placed) ∙ length-put (length weights) (keyOf pot weights whole) keys
 
-  pub placed-long : length (take (length weights) keys′) ≡ length weights
-  placed-long = length-take-le (length weights) keys′ (rw keys-long key-room)
+    pub placed-long : length (take (length weights) keys′) ≡ length weights
+    placed-long = length-take-le (length weights) keys′ (rw keys-long key-room)
 
-  key-at : (i : ℕ) → i < length weights → at (take (length weights) keys′) i ≡ remainder pot weights i * 64 + (63 - i)
-  key-at i b =
-      getD-take (length weights) keys′ i 0 b
-      ∙ ap (λ l. at l i) (cut .placed)
-      ∙ at-put (length weights) (keyOf pot weights whole) keys key-room i b
-      ∙ ap (λ r. r * 64 + (63 - i)) (rest-is i)
+    key-at : (i : ℕ) → i < length weights → at (take (length weights) keys′) i ≡ remainder pot weights i * 64 + (63 - i)
+    key-at i b =
+        getD-take (length weights) keys′ i 0 b
+        ∙ ap (λ l. at l i) (cut .placed)
+        ∙ at-put (length weights) (keyOf pot weights whole) keys key-room i b
+        ∙ ap (λ r. r * 64 + (63 - i)) (rest-is i)
 
-  standing-is : (i : ℕ) → i < length weights
-    → larger (take (length weights) keys′) (at (take (length weights) keys′) i) ≡ rank (length weights) (comesBefore pot weights) i
-  unfolding comesBefore
-  standing-is i b =
-      ap (λ n. sumTo n (λ j. bit (ltb (at (take (length weights) keys′) i) (at (take (length weights) keys′) j)))) placed-long
-      ∙ sum-eq (length weights)
+    standing-is : (i : ℕ) → i < length weights
+        → larger (take (length weights) keys′) (at (take (length weights) keys′) i) ≡ rank (length weights) (comesBefore pot weights) i
+    unfolding comesBefore
+    standing-is i b =
+        ap (λ n. sumTo n (λ j. bit (ltb (at (take (length weights) keys′) i) (at (take (length weights) keys′) j)))) placed-long
+        ∙ sum-eq (length weights)
         (λ j. bit (ltb (at (take (length weights) keys′) i) (at (take (length weights) keys′) j)))
         (λ j. bit (largestFirst (remainder pot weights) j i))
         (λ j h.
-          ap₂ (λ x y. bit (ltb x y)) (key-at i b) (key-at j h)
-          ∙ ap bit (keyed (remainder pot weights) i j (le-trans b few) (le-trans h few)))
+        ap₂ (λ x y. bit (ltb x y)) (key-at i b) (key-at j h)
+        ∙ ap bit (keyed (remainder pot weights) i j (le-trans b few) (le-trans h few)))
 
-  pub cents-at : (i : ℕ) → i < length weights → at out′ i ≡ quotient pot weights i
-  cents-at i b =
-      ap (λ l. at l i) (cut .cents) ∙ at-put (length weights) (centsOf pot weights whole) out room i b ∙ cents-is i
+    pub cents-at : (i : ℕ) → i < length weights → at out′ i ≡ quotient pot weights i
+    cents-at i b =
+        ap (λ l. at l i) (cut .cents) ∙ at-put (length weights) (centsOf pot weights whole) out room i b ∙ cents-is i
 
-  pub out-long : length out′ ≡ length out
-  out-long = ap length (cut .cents) ∙ length-put (length weights) (centsOf pot weights whole) out
+    pub out-long : length out′ ≡ length out
+    out-long = ap length (cut .cents) ∙ length-put (length weights) (centsOf pot weights whole) out
 
-  -- what `hand_out` asks of the words that it is lent
-  pub ready : (length (take (length weights) keys′) ≤ length out′)
-    × ((i : ℕ) → i < length (take (length weights) keys′) → (at out′ i ≤ potLimit) × (at (take (length weights) keys′) i < 2 ^ 63))
-  ready =
-      (rw (placed-long, out-long) room
-      , λ i h.
-        let b : i < length weights = rw placed-long at h in
-        let base = base-of pot weights whole size is-whole in
-        (le-trans
-          (le-of-eq (ap (λ l. at l i) (cut .cents) ∙ at-put (length weights) (centsOf pot weights whole) out room i b))
-          (le-trans (cents-fit pot weights whole base i b) (size .pot-fits))
-        , omega (arith, key-at i b, rest-is i, rest-fits pot weights whole base i, base .whole-fits)))
+    -- what `hand_out` asks of the words that it is lent
+    pub ready : (length (take (length weights) keys′) ≤ length out′)
+        × ((i : ℕ) → i < length (take (length weights) keys′) → (at out′ i ≤ potLimit) × (at (take (length weights) keys′) i < 2 ^ 63))
+    ready = (
+      rw (placed-long, out-long) room,
+      λ i h.
+          let b : i < length weights = rw placed-long at h in
+          let base = base-of pot weights whole size is-whole in (
+            le-trans
+                (le-of-eq (ap (λ l. at l i) (cut .cents) ∙ at-put (length weights) (centsOf pot weights whole) out room i b))
+                (le-trans (cents-fit pot weights whole base i b) (size .pot-fits)),
+            omega (arith, key-at i b, rest-is i, rest-fits pot weights whole base i, base .whole-fits),
+          ),
+    )
 
-  handed-is : (i : ℕ) → i < length weights
-    → handed (pot - given) (take (length weights) keys′) out′ i ≡ share pot weights i
-  unfolding share getsCent
-  handed-is i b = ap₂ _+_ (cents-at i b) (ap₂ (λ x y. bit (ltb x y)) (standing-is i b) left-is)
+    handed-is : (i : ℕ) → i < length weights
+        → handed (pot - given) (take (length weights) keys′) out′ i ≡ share pot weights i
+    unfolding share getsCent
+    handed-is i b = ap₂ _+_ (cents-at i b) (ap₂ (λ x y. bit (ltb x y)) (standing-is i b) left-is)
 
-  pub shared-out : (out″ : List ℕ)
-    → out″ ≡ put (length (take (length weights) keys′)) (handed (pot - given) (take (length weights) keys′) out′) out′
-    → out″ ≡ put (length weights) (share pot weights) out
-  shared-out out″ e =
-      e
-      ∙ ap (λ n. put n (handed (pot - given) (take (length weights) keys′) out′) out′) placed-long
-      ∙ put-eq (length weights) (handed (pot - given) (take (length weights) keys′) out′) (share pot weights) out′ handed-is
-      ∙ ap (put (length weights) (share pot weights)) (cut .cents)
-      ∙ put-over (length weights) (centsOf pot weights whole) (share pot weights) out room
+    pub shared-out : (out″ : List ℕ)
+        → out″ ≡ put (length (take (length weights) keys′)) (handed (pot - given) (take (length weights) keys′) out′) out′
+        → out″ ≡ put (length weights) (share pot weights) out
+    shared-out out″ e =
+        e
+        ∙ ap (λ n. put n (handed (pot - given) (take (length weights) keys′) out′) out′) placed-long
+        ∙ put-eq (length weights) (handed (pot - given) (take (length weights) keys′) out′) (share pot weights) out′ handed-is
+        ∙ ap (put (length weights) (share pot weights)) (cut .cents)
+        ∙ put-over (length weights) (centsOf pot weights whole) (share pot weights) out room

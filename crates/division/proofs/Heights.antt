@@ -84,43 +84,43 @@ spread-all : (c n w : ℕ) (f : ℕ → ℕ) → most n f ≤ least c n f + w �
 spread-all c n w f h i j bi bj = omega (arith, most-at n f i bi, least-at c n f j bj)
 
 all-spread : (c n w : ℕ) (f : ℕ → ℕ) → ((i : ℕ) → i < n → f i ≤ c) → ((i j : ℕ) → i < n → j < n → f i ≤ f j + w)
-  → most n f ≤ least c n f + w
+    → most n f ≤ least c n f + w
 all-spread c n w f k h =
     most-le n f (least c n f + w)
     (λ i bi.
-      let low : f i - w ≤ least c n f =
-            least-ge c n f (f i - w) (omega (arith, k i bi)) (λ j bj. let l : f i ≤ f j + w = h i j bi bj in omega arith) in
-      omega arith)
+    let low : f i - w ≤ least c n f =
+    least-ge c n f (f i - w) (omega (arith, k i bi)) (λ j bj. let l : f i ≤ f j + w = h i j bi bj in omega arith) in
+    omega arith)
 
 -- heights of amounts a over exact shares x, both in parts of w
 abbrev over : ℕ → ℕ → ℕ → ℕ
 over w a x = min (a + w - x) (2 * w)
 
 module _ (n w : ℕ) (a x : ℕ → ℕ) (positive : 0 < w) (equal : sumTo n a ≡ sumTo n x)
-  (near : (i j : ℕ) → i < n → j < n → over w (a i) (x i) ≤ over w (a j) (x j) + w)
+    (near : (i j : ℕ) → i < n → j < n → over w (a i) (x i) ≤ over w (a j) (x j) + w)
   where
-  not-low : (k : ℕ) → k < n → x k < a k + w
-  not-low k b =
-      ⊎-elim
-      (λ (l : x k < a k + w). l)
-      (λ (g : a k + w ≤ x k).
+    not-low : (k : ℕ) → k < n → x k < a k + w
+    not-low k b =
+        ⊎-elim
+        (λ (l : x k < a k + w). l)
+        (λ (g : a k + w ≤ x k).
         let all : (i : ℕ) → i < n → a i ≤ x i = λ i bi. let h : over w (a i) (x i) ≤ over w (a k) (x k) + w = near i k bi b in omega arith in
         let same : a k ≡ x k = sum-tight n a x all equal k b in
         absurd (omega arith))
-      (lt-or-le (x k) (a k + w))
+        (lt-or-le (x k) (a k + w))
 
-  not-high : (k : ℕ) → k < n → a k < x k + w
-  not-high k b =
-      ⊎-elim
-      (λ (l : a k < x k + w). l)
-      (λ (g : x k + w ≤ a k).
+    not-high : (k : ℕ) → k < n → a k < x k + w
+    not-high k b =
+        ⊎-elim
+        (λ (l : a k < x k + w). l)
+        (λ (g : x k + w ≤ a k).
         let all : (i : ℕ) → i < n → x i ≤ a i = λ i bi. let h : over w (a k) (x k) ≤ over w (a i) (x i) + w = near k i b bi in omega arith in
         let same : x k ≡ a k = sum-tight n x a all (sym equal) k b in
         absurd (omega arith))
-      (lt-or-le (a k) (x k + w))
+        (lt-or-le (a k) (x k + w))
 
-  near-level : (i j : ℕ) → i < n → j < n → a i + x j ≤ a j + x i + w
-  near-level i j bi bj = omega (arith, near i j bi bj, not-low i bi, not-high i bi, not-low j bj, not-high j bj)
+    near-level : (i j : ℕ) → i < n → j < n → a i + x j ≤ a j + x i + w
+    near-level i j bi bj = omega (arith, near i j bi bj, not-low i bi, not-high i bi, not-low j bj, not-high j bj)
 
 level-near : (w ai aj xi xj : ℕ) → ai + xj ≤ aj + xi + w → over w ai xi ≤ over w aj xj + w
 level-near w ai aj xi xj h = omega arith
@@ -144,42 +144,42 @@ module _ (pot : ℕ) (weights amounts : List ℕ) (size : Sized pot (total weigh
 
   pub level-spread : leb (most (length weights) (height pot weights (total weights) amounts))
       (least (2 * total weights) (length weights) (height pot weights (total weights) amounts) + total weights)
-    ≡ level pot weights amounts
+      ≡ level pot weights amounts
   unfolding level
   level-spread =
       same-truth
       (leb (most (length weights) (height pot weights (total weights) amounts))
-        (least (2 * total weights) (length weights) (height pot weights (total weights) amounts) + total weights))
+      (least (2 * total weights) (length weights) (height pot weights (total weights) amounts) + total weights))
       (every (length weights) (λ i. every (length weights) (λ j.
-        leb (total weights * at amounts i + pot * at weights j) (total weights * at amounts j + pot * at weights i + total weights))))
+      leb (total weights * at amounts i + pot * at weights j) (total weights * at amounts j + pot * at weights i + total weights))))
       (λ t.
-        every-from (length weights) _ (λ i bi. every-from (length weights) _ (λ j bj. le-leb _ _ (from-spread (leb-true _ _ t) i j bi bj))))
+      every-from (length weights) _ (λ i bi. every-from (length weights) _ (λ j bj. le-leb _ _ (from-spread (leb-true _ _ t) i j bi bj))))
       (λ t.
-        le-leb _ _
-        (all-spread (2 * total weights) (length weights) (total weights) (height pot weights (total weights) amounts)
-          (λ i b. omega arith)
-          (λ i j bi bj.
-            let far : total weights * at amounts i + pot * at weights j ≤ total weights * at amounts j + pot * at weights i + total weights =
-                  leb-true _ _ (every-at (length weights) _ (every-at (length weights) _ t i bi) j bj) in
-            let h = level-near (total weights) (total weights * at amounts i) (total weights * at amounts j) (pot * at weights i) (pot * at weights j) far in
-            omega (arith, over-is i, over-is j, h))))
+      le-leb _ _
+      (all-spread (2 * total weights) (length weights) (total weights) (height pot weights (total weights) amounts)
+      (λ i b. omega arith)
+      (λ i j bi bj.
+      let far : total weights * at amounts i + pot * at weights j ≤ total weights * at amounts j + pot * at weights i + total weights =
+      leb-true _ _ (every-at (length weights) _ (every-at (length weights) _ t i bi) j bj) in
+      let h = level-near (total weights) (total weights * at amounts i) (total weights * at amounts j) (pot * at weights i) (pot * at weights j) far in
+      omega (arith, over-is i, over-is j, h))))
     where
       from-spread : most (length weights) (height pot weights (total weights) amounts)
           ≤ least (2 * total weights) (length weights) (height pot weights (total weights) amounts) + total weights
-        → (i j : ℕ) → i < length weights → j < length weights
-        → total weights * at amounts i + pot * at weights j ≤ total weights * at amounts j + pot * at weights i + total weights
+          → (i j : ℕ) → i < length weights → j < length weights
+          → total weights * at amounts i + pot * at weights j ≤ total weights * at amounts j + pot * at weights i + total weights
       from-spread h i j bi bj =
           ⊎-elim
           (λ (z : total weights ≡ 0).
-            let none : pot * at weights j ≡ 0 * at weights j = ap (λ p. p * at weights j) (size .zero-sum z) in
-            let no-sum : total weights * at amounts i ≡ 0 * at amounts i = ap (λ w. w * at amounts i) z in
-            omega arith)
+          let none : pot * at weights j ≡ 0 * at weights j = ap (λ p. p * at weights j) (size .zero-sum z) in
+          let no-sum : total weights * at amounts i ≡ 0 * at amounts i = ap (λ w. w * at amounts i) z in
+          omega arith)
           (λ (d : total weights ≢ 0).
-            near-level (length weights) (total weights) (λ k. total weights * at amounts k) (λ k. pot * at weights k)
-            (omega (arith, d)) equal-sums
-            (λ k l bk bl.
-              let n : height pot weights (total weights) amounts k ≤ height pot weights (total weights) amounts l + total weights =
-                    spread-all (2 * total weights) (length weights) (total weights) (height pot weights (total weights) amounts) h k l bk bl in
-              omega (arith, over-is k, over-is l))
-            i j bi bj)
+          near-level (length weights) (total weights) (λ k. total weights * at amounts k) (λ k. pot * at weights k)
+          (omega (arith, d)) equal-sums
+          (λ k l bk bl.
+          let n : height pot weights (total weights) amounts k ≤ height pot weights (total weights) amounts l + total weights =
+          spread-all (2 * total weights) (length weights) (total weights) (height pot weights (total weights) amounts) h k l bk bl in
+          omega (arith, over-is k, over-is l))
+          i j bi bj)
           (zero-or-not (total weights))

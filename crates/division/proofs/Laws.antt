@@ -57,55 +57,55 @@ unfolding shares
 shares-add-up pot weights base =
     total-listed (length weights) (share pot weights)
     ∙ ⊎-elim
-      (λ (z : total weights ≡ 0).
-        sum-zero (length weights) (share pot weights) (λ i b. share-of-none pot weights i (base z)) ∙ sym (base z))
-      (λ (d : total weights ≢ 0). shares-sum pot weights (omega (arith, d)))
-      (zero-or-not (total weights))
+    (λ (z : total weights ≡ 0).
+    sum-zero (length weights) (share pot weights) (λ i b. share-of-none pot weights i (base z)) ∙ sym (base z))
+    (λ (d : total weights ≢ 0). shares-sum pot weights (omega (arith, d)))
+    (zero-or-not (total weights))
 
 -- no share is above the pot
 pub share-within : (pot : ℕ) (weights : List ℕ) → (total weights ≡ 0 → pot ≡ 0) → (i : ℕ) → at (shares pot weights) i ≤ pot
 share-within pot weights base i =
     ⊎-elim
     (λ (b : i < length (shares pot weights)).
-      subst (λ p. at (shares pot weights) i ≤ p) (shares-add-up pot weights base)
-      (le-sum (length (shares pot weights)) (at (shares pot weights)) i b))
+    subst (λ p. at (shares pot weights) i ≤ p) (shares-add-up pot weights base)
+    (le-sum (length (shares pot weights)) (at (shares pot weights)) i b))
     (λ (o : length (shares pot weights) ≤ i).
-      let none : at (shares pot weights) i ≡ 0 = List·getD-eq-default (shares pot weights) 0 o in omega arith)
+    let none : at (shares pot weights) i ≡ 0 = List·getD-eq-default (shares pot weights) 0 o in omega arith)
     (lt-or-le i (length (shares pot weights)))
 
 -- a weight of zero gets nothing
 pub no-weight-no-share : (pot : ℕ) (weights : List ℕ) → (total weights ≡ 0 → pot ≡ 0)
-  → (i : ℕ) → i < length weights → at weights i ≡ 0 → at (shares pot weights) i ≡ 0
+    → (i : ℕ) → i < length weights → at weights i ≡ 0 → at (shares pot weights) i ≡ 0
 no-weight-no-share pot weights base i b z =
     at-shares pot weights i b
     ∙ ⊎-elim
-      (λ (e : total weights ≡ 0). share-of-none pot weights i (base e))
-      (λ (d : total weights ≢ 0).
-        share-is pot weights i
-        ∙ ap₂ (λ q t. q + bit t) (no-quotient pot weights i z)
-          (nothing-cut pot weights (omega (arith, d)) i (no-remainder pot weights i z)))
-      (zero-or-not (total weights))
+    (λ (e : total weights ≡ 0). share-of-none pot weights i (base e))
+    (λ (d : total weights ≢ 0).
+    share-is pot weights i
+    ∙ ap₂ (λ q t. q + bit t) (no-quotient pot weights i z)
+    (nothing-cut pot weights (omega (arith, d)) i (no-remainder pot weights i z)))
+    (zero-or-not (total weights))
 
 -- weights of zero put in change nothing: a member's share is what it has where the members are divided among alone, at its
 -- place among them
 pub shares-among : (pot : ℕ) (weights : List ℕ) (member : ℕ → Bool) → (total weights ≡ 0 → pot ≡ 0)
-  → ((i : ℕ) → i < length weights → member i ≡ false → at weights i ≡ 0)
-  → (i : ℕ) → i < length weights → member i ≡ true
-  → at (shares pot weights) i ≡ at (shares pot (kept (length weights) member (at weights))) (count i member)
+    → ((i : ℕ) → i < length weights → member i ≡ false → at weights i ≡ 0)
+    → (i : ℕ) → i < length weights → member i ≡ true
+    → at (shares pot weights) i ≡ at (shares pot (kept (length weights) member (at weights))) (count i member)
 shares-among pot weights member base others i b m =
     let alone = kept (length weights) member (at weights) in
     let within : count i member < length alone =
-          subst (λ n. count i member < n) (sym (length-kept (length weights) member (at weights))) (place-below (length weights) member i b m) in
+    subst (λ n. count i member < n) (sym (length-kept (length weights) member (at weights))) (place-below (length weights) member i b m) in
     at-shares pot weights i b
     ∙ ⊎-elim
-      (λ (z : total weights ≡ 0). share-of-none pot weights i (base z) ∙ sym (share-of-none pot alone (count i member) (base z)))
-      (λ (d : total weights ≢ 0). sym (share-alone pot weights member others (omega (arith, d)) i b m))
-      (zero-or-not (total weights))
+    (λ (z : total weights ≡ 0). share-of-none pot weights i (base z) ∙ sym (share-of-none pot alone (count i member) (base z)))
+    (λ (d : total weights ≢ 0). sym (share-alone pot weights member others (omega (arith, d)) i b m))
+    (zero-or-not (total weights))
     ∙ sym (at-shares pot alone (count i member) within)
 
 -- .. and the members' weights add up to the same
 pub total-among : (weights : List ℕ) (member : ℕ → Bool) → ((i : ℕ) → i < length weights → member i ≡ false → at weights i ≡ 0)
-  → total (kept (length weights) member (at weights)) ≡ total weights
+    → total (kept (length weights) member (at weights)) ≡ total weights
 total-among weights member others = total-kept 0 weights member others
 
 -- what is known of sizes that are not refused, and the sizes that are not
@@ -114,7 +114,7 @@ size-accepted pot w e = let s = sized pot w e in (s .pot-fits, s .sum-fits, s .z
 
 -- what is known of a division that is not refused
 pub divide-accepted : (pot : ℕ) (weights : List ℕ) (room : ℕ) → divideRefusal pot weights room ≡ 0
-  → (length weights ≤ mostWeights) × (length weights ≤ room) × (pot ≤ potLimit) × (total weights ≤ weightLimit) × (total weights ≡ 0 → pot ≡ 0)
+    → (length weights ≤ mostWeights) × (length weights ≤ room) × (pot ≤ potLimit) × (total weights ≤ weightLimit) × (total weights ≡ 0 → pot ≡ 0)
 unfolding divideRefusal
 divide-accepted pot weights room e =
     let many = look-none (ltb mostWeights (length weights)) 1 _ (λ q. omega arith) e in
@@ -127,19 +127,19 @@ pub many-weights : (pot : ℕ) (weights : List ℕ) (room : ℕ) → mostWeights
 many-weights = refusals.too-many
 
 pub enough-room : (pot : ℕ) (weights : List ℕ) (room : ℕ) → length weights ≤ mostWeights
-  → divideRefusal pot weights (min room mostWeights) ≡ divideRefusal pot weights room
+    → divideRefusal pot weights (min room mostWeights) ≡ divideRefusal pot weights room
 unfolding divideRefusal
 enough-room pot weights room few =
     ⊎-elim
     (λ (short : room < length weights).
-      rw (lt-ltb room (length weights) short, lt-ltb (min room mostWeights) (length weights) (omega arith)))
+    rw (lt-ltb room (length weights) short, lt-ltb (min room mostWeights) (length weights) (omega arith)))
     (λ (fits : length weights ≤ room).
-      rw (le-ltb room (length weights) fits, le-ltb (min room mostWeights) (length weights) (omega arith)))
+    rw (le-ltb room (length weights) fits, le-ltb (min room mostWeights) (length weights) (omega arith)))
     (lt-or-le room (length weights))
 
 -- the lent words of an accepted division begin with the shares, and those of a refused one are as they were
 pub memory-accepted : (pot : ℕ) (weights out : List ℕ) → divideRefusal pot weights (length out) ≡ 0
-  → memory pot weights out ≡ shares pot weights ++ drop (length weights) out
+    → memory pot weights out ≡ shares pot weights ++ drop (length weights) out
 unfolding memory
 memory-accepted pot weights out e = rw (eq-eqb (divideRefusal pot weights (length out)) 0 e)
 
@@ -153,6 +153,6 @@ check-many-weights pot weights amounts h =
     sym (verdicts.refused pot weights amounts COUNT (verdicts.too-many pot weights amounts h) (λ e. omega arith))
 
 pub check-unlike : (pot : ℕ) (weights amounts : List ℕ) → length weights ≤ mostWeights → length amounts ≢ length weights
-  → verdict pot weights amounts ≡ Refused COUNT
+    → verdict pot weights amounts ≡ Refused COUNT
 check-unlike pot weights amounts few d =
     sym (verdicts.refused pot weights amounts COUNT (verdicts.unlike pot weights amounts few d) (λ e. omega arith))

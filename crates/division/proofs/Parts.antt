@@ -52,7 +52,7 @@ module _ (pot : ℕ) (weights : List ℕ) (positive : 0 < total weights) where
   remainders-sum : sumTo (length weights) (remainder pot weights) ≡ total weights * leftover pot weights
   remainders-sum =
       let spread : total weights * (sumTo (length weights) (quotient pot weights) + leftover pot weights) ≡ total weights * pot =
-            ap (λ p. total weights * p) given-and-left in
+      ap (λ p. total weights * p) given-and-left in
       omega (arith, sums)
 
   capped : (i : ℕ) → remainder pot weights i ≤ total weights * bit (cut-off pot weights i)
@@ -98,7 +98,7 @@ module _ (pot : ℕ) (weights : List ℕ) (positive : 0 < total weights) where
       le-ltb (rank (length weights) (comesBefore pot weights) i) (leftover pot weights)
       (le-trans leftover-within
       (count-implied (length weights) (cut-off pot weights) (λ j. comesBefore pot weights j i)
-        (λ j b h. larger-first (remainder pot weights) j i (let l : 0 < remainder pot weights j = ltb-true 0 (remainder pot weights j) h in omega arith))))
+      (λ j b h. larger-first (remainder pot weights) j i (let l : 0 < remainder pot weights j = ltb-true 0 (remainder pot weights j) h in omega arith))))
 
   -- of two positions the one with the larger remainder is not passed over
   pub larger-gets : (i j : ℕ) → j < length weights → getsCent pot weights i ≡ true → getsCent pot weights j ≡ false → remainder pot weights j ≤ remainder pot weights i
@@ -106,10 +106,10 @@ module _ (pot : ℕ) (weights : List ℕ) (positive : 0 < total weights) where
   larger-gets i j bj gi gj =
       ⊎-elim
       (λ (l : remainder pot weights i < remainder pot weights j).
-        let before : rank (length weights) (comesBefore pot weights) i < leftover pot weights = ltb-true _ _ gi in
-        let behind : leftover pot weights ≤ rank (length weights) (comesBefore pot weights) j = ltb-false _ _ gj in
-        let less : rank (length weights) (comesBefore pot weights) j < rank (length weights) (comesBefore pot weights) i =
-              rank-less (comesBefore pot weights) ordered (length weights) j i bj (larger-first (remainder pot weights) j i l) in
-        absurd (omega arith))
+      let before : rank (length weights) (comesBefore pot weights) i < leftover pot weights = ltb-true _ _ gi in
+      let behind : leftover pot weights ≤ rank (length weights) (comesBefore pot weights) j = ltb-false _ _ gj in
+      let less : rank (length weights) (comesBefore pot weights) j < rank (length weights) (comesBefore pot weights) i =
+      rank-less (comesBefore pot weights) ordered (length weights) j i bj (larger-first (remainder pot weights) j i l) in
+      absurd (omega arith))
       (λ (g : remainder pot weights j ≤ remainder pot weights i). g)
       (lt-or-le (remainder pot weights i) (remainder pot weights j))

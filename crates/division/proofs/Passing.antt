@@ -40,25 +40,30 @@ fits-size pot w p q z =
     never false = refl
 
 pub divide-accepts : (pot : ℕ) (weights : List ℕ) (room : ℕ)
-  → (divideRefusal pot weights room ≡ 0)
+    → (divideRefusal pot weights room ≡ 0)
     ↔ ((length weights ≤ mostWeights) × (length weights ≤ room) × (pot ≤ potLimit) × (total weights ≤ weightLimit) × (total weights ≡ 0 → pot ≡ 0))
-divide-accepts pot weights room =
-    (laws.divide-accepted pot weights room
-    , λ g. refusals.by-size pot weights room (g .0) (g .1) ∙ fits-size pot (total weights) (g .2) (g .3) (g .4))
+divide-accepts pot weights room = (
+  laws.divide-accepted pot weights room,
+  λ g. refusals.by-size pot weights room (g .0) (g .1) ∙ fits-size pot (total weights) (g .2) (g .3) (g .4),
+)
 
 pub check-accepts : (pot : ℕ) (weights amounts : List ℕ)
-  → (checkRefusal pot weights amounts ≡ 0)
+    → (checkRefusal pot weights amounts ≡ 0)
     ↔ ((length weights ≤ mostWeights) × (length weights ≡ length amounts) × (pot ≤ potLimit) × (total weights ≤ weightLimit) × (total weights ≡ 0 → pot ≡ 0))
 unfolding checkRefusal
-check-accepts pot weights amounts =
-    ((λ e.
+check-accepts pot weights amounts = (
+  (λ e.
       let counts = look-none (ltb mostWeights (length weights) || not (eqb (length weights) (length amounts))) 1 _ (λ q. omega arith) e in
       let fine = neither (ltb mostWeights (length weights)) (not (eqb (length weights) (length amounts))) (counts .0) in
-      let size = laws.size-accepted pot (total weights) (counts .1) in
-      (ltb-false mostWeights (length weights) (fine .0)
-      , eqb-true (length weights) (length amounts) (not-false (eqb (length weights) (length amounts)) (fine .1))
-      , size .0, size .1, size .2))
-    , λ g. verdicts.by-size pot weights amounts (g .0) (sym (g .1)) ∙ fits-size pot (total weights) (g .2) (g .3) (g .4))
+      let size = laws.size-accepted pot (total weights) (counts .1) in (
+        ltb-false mostWeights (length weights) (fine .0),
+        eqb-true (length weights) (length amounts) (not-false (eqb (length weights) (length amounts)) (fine .1)),
+        size .0,
+        size .1,
+        size .2,
+      )),
+  λ g. verdicts.by-size pot weights amounts (g .0) (sym (g .1)) ∙ fits-size pot (total weights) (g .2) (g .3) (g .4),
+)
 
 pub shares-add-up : (pot : ℕ) (weights : List ℕ) → 0 < total weights → total (shares pot weights) ≡ pot
 shares-add-up pot weights positive = laws.shares-add-up pot weights (λ z. absurd (omega arith))
@@ -67,24 +72,24 @@ pub no-pot-no-shares : (weights : List ℕ) (i : ℕ) → at (shares 0 weights) 
 no-pot-no-shares weights i = let none : at (shares 0 weights) i ≤ 0 = laws.share-within 0 weights (λ z. refl) i in omega arith
 
 pub quotient-or-one-more : (pot : ℕ) (weights : List ℕ) (i : ℕ)
-  → (share pot weights i ≡ quotient pot weights i) ⊎ (share pot weights i ≡ quotient pot weights i + 1)
+    → (share pot weights i ≡ quotient pot weights i) ⊎ (share pot weights i ≡ quotient pot weights i + 1)
 quotient-or-one-more pot weights i =
     ⊎-elim
     (λ (t : getsCent pot weights i ≡ true). inr (share-is pot weights i ∙ ap (λ b. quotient pot weights i + bit b) t))
     (λ (f : getsCent pot weights i ≡ false).
-      inl (let e : share pot weights i ≡ quotient pot weights i + 0 = share-is pot weights i ∙ ap (λ b. quotient pot weights i + bit b) f in omega arith))
+    inl (let e : share pot weights i ≡ quotient pot weights i + 0 = share-is pot weights i ∙ ap (λ b. quotient pot weights i + bit b) f in omega arith))
     (true-or-false (getsCent pot weights i))
 
 pub leftover-cents-to-the-largest : (pot : ℕ) (weights : List ℕ) → 0 < total weights
-  → (i j : ℕ) → i < length weights → j < length weights
-  → (remainder pot weights i < remainder pot weights j) ⊎ ((remainder pot weights i ≡ remainder pot weights j) × (j < i))
-  → getsCent pot weights i ≡ true → getsCent pot weights j ≡ true
+    → (i j : ℕ) → i < length weights → j < length weights
+    → (remainder pot weights i < remainder pot weights j) ⊎ ((remainder pot weights i ≡ remainder pot weights j) × (j < i))
+    → getsCent pot weights i ≡ true → getsCent pot weights j ≡ true
 unfolding getsCent comesBefore
 leftover-cents-to-the-largest pot weights positive i j bi bj first g =
     let before : comesBefore pot weights j i ≡ true =
-          ⊎-elim (λ l. larger-first (remainder pot weights) j i l) (λ b. lower-first (remainder pot weights) j i (b .0) (b .1)) first in
+    ⊎-elim (λ l. larger-first (remainder pot weights) j i l) (λ b. lower-first (remainder pot weights) j i (b .0) (b .1)) first in
     let less : rank (length weights) (comesBefore pot weights) j < rank (length weights) (comesBefore pot weights) i =
-          rank-less (comesBefore pot weights) (ordered pot weights positive) (length weights) j i bj before in
+    rank-less (comesBefore pot weights) (ordered pot weights positive) (length weights) j i bj before in
     let gets : rank (length weights) (comesBefore pot weights) i < leftover pot weights = ltb-true _ _ g in
     lt-ltb (rank (length weights) (comesBefore pot weights) j) (leftover pot weights) (omega arith)
 
@@ -94,22 +99,22 @@ module _ (pot : ℕ) (weights : List ℕ) (positive : 0 < total weights) where
   cent i = bit (getsCent pot weights i)
 
   scaled : (i : ℕ) → i < length weights
-    → total weights * at (shares pot weights) i ≡ total weights * quotient pot weights i + total weights * cent i
+      → total weights * at (shares pot weights) i ≡ total weights * quotient pot weights i + total weights * cent i
   unfolding cent
   scaled i b =
       let s : at (shares pot weights) i ≡ quotient pot weights i + cent i = laws.at-shares pot weights i b ∙ share-is pot weights i in
       omega (arith, ap (λ k. total weights * k) s)
 
   cents-level : (i j : ℕ) → i < length weights → j < length weights
-    → total weights * cent i + remainder pot weights j ≤ total weights * cent j + remainder pot weights i + total weights
+      → total weights * cent i + remainder pot weights j ≤ total weights * cent j + remainder pot weights i + total weights
   unfolding cent
   cents-level i j bi bj =
       ⊎-elim
       (λ (gi : getsCent pot weights i ≡ true).
-        ⊎-elim
-        (λ (gj : getsCent pot weights j ≡ true). rw (gi, gj) (omega (arith, remainder-below pot weights positive j)))
-        (λ (fj : getsCent pot weights j ≡ false). rw (gi, fj) (omega (arith, larger-gets pot weights positive i j bj gi fj)))
-        (true-or-false (getsCent pot weights j)))
+      ⊎-elim
+      (λ (gj : getsCent pot weights j ≡ true). rw (gi, gj) (omega (arith, remainder-below pot weights positive j)))
+      (λ (fj : getsCent pot weights j ≡ false). rw (gi, fj) (omega (arith, larger-gets pot weights positive i j bj gi fj)))
+      (true-or-false (getsCent pot weights j)))
       (λ (fi : getsCent pot weights i ≡ false). rw fi (omega (arith, remainder-below pot weights positive j)))
       (true-or-false (getsCent pot weights i))
 
@@ -117,11 +122,11 @@ module _ (pot : ℕ) (weights : List ℕ) (positive : 0 < total weights) where
   unfolding level
   shares-level =
       every-from (length weights) _ (λ i bi. every-from (length weights) _ (λ j bj.
-        le-leb (total weights * at (shares pot weights) i + pot * at weights j) (total weights * at (shares pot weights) j + pot * at weights i + total weights)
-        (omega (arith, scaled i bi, scaled j bj, exact pot weights positive i, exact pot weights positive j, cents-level i j bi bj))))
+      le-leb (total weights * at (shares pot weights) i + pot * at weights j) (total weights * at (shares pot weights) j + pot * at weights i + total weights)
+      (omega (arith, scaled i bi, scaled j bj, exact pot weights positive i, exact pot weights positive j, cents-level i j bi bj))))
 
 pub share-within-a-cent : (pot : ℕ) (weights : List ℕ) → 0 < total weights
-  → (i : ℕ) → i < length weights → distance pot weights (shares pot weights) i < total weights
+    → (i : ℕ) → i < length weights → distance pot weights (shares pot weights) i < total weights
 share-within-a-cent pot weights positive i b =
     level-within-a-cent pot weights (shares pot weights) positive (laws.length-shares pot weights)
     (shares-add-up pot weights positive) (shares-level pot weights positive) i b
@@ -132,8 +137,8 @@ unfolding verdict
 yes-passes pot weights amounts e = go (true-or-false (eqb (checkRefusal pot weights amounts) 0)) (true-or-false (passes pot weights amounts))
   where
     go : (eqb (checkRefusal pot weights amounts) 0 ≡ true) ⊎ (eqb (checkRefusal pot weights amounts) 0 ≡ false)
-      → (passes pot weights amounts ≡ true) ⊎ (passes pot weights amounts ≡ false)
-      → (checkRefusal pot weights amounts ≡ 0) × (passes pot weights amounts ≡ true)
+        → (passes pot weights amounts ≡ true) ⊎ (passes pot weights amounts ≡ false)
+        → (checkRefusal pot weights amounts ≡ 0) × (passes pot weights amounts ≡ true)
     go (inl t) (inl p) = (eqb-true _ _ t, p)
     go (inl t) (inr f) = let z : _≡_ {A = ℕ} 0 1 = cc in absurd (omega arith)
     go (inr f) p = let z : _≡_ {A = ℕ} 0 1 = cc in absurd (omega arith)
@@ -145,13 +150,13 @@ passes-parts : (pot : ℕ) (weights amounts : List ℕ) → passes pot weights a
 passes-parts pot weights amounts p =
     ⊎-elim
     (λ (e : eqb (total amounts) pot ≡ true).
-      let sum : total amounts ≡ pot = eqb-true (total amounts) pot e in
-      (sum, sym (verdicts.right-sum pot weights amounts sum) ∙ p))
+    let sum : total amounts ≡ pot = eqb-true (total amounts) pot e in
+    (sum, sym (verdicts.right-sum pot weights amounts sum) ∙ p))
     (λ (f : eqb (total amounts) pot ≡ false). absurd (true≢false (sym p ∙ verdicts.wrong-sum pot weights amounts (eqb-false (total amounts) pot f))))
     (true-or-false (eqb (total amounts) pot))
 
 pub yes-or-no : (pot : ℕ) (weights amounts : List ℕ) → checkRefusal pot weights amounts ≡ 0
-  → (verdict pot weights amounts ≡ Yes) ⊎ (verdict pot weights amounts ≡ No)
+    → (verdict pot weights amounts ≡ Yes) ⊎ (verdict pot weights amounts ≡ No)
 yes-or-no pot weights amounts e =
     ⊎-elim
     (λ p. inl (verdicts.said pot weights amounts e ∙ ap (λ t. cond t Yes No) p))
@@ -159,18 +164,19 @@ yes-or-no pot weights amounts e =
     (true-or-false (passes pot weights amounts))
 
 pub yes-means-closest : (pot : ℕ) (weights amounts : List ℕ) → 0 < total weights → checkRefusal pot weights amounts ≡ 0
-  → (verdict pot weights amounts ≡ Yes) ↔ ((total amounts ≡ pot) × Closest pot weights amounts)
+    → (verdict pot weights amounts ≡ Yes) ↔ ((total amounts ≡ pot) × Closest pot weights amounts)
 yes-means-closest pot weights amounts positive accepted =
-    let alike : length amounts ≡ length weights = sym (check-accepts pot weights amounts .0 accepted .1) in
-    ((λ y.
-      let both = passes-parts pot weights amounts (yes-passes pot weights amounts y .1) in
-      (both .0, level-closest pot weights amounts positive alike (both .0) (both .1)))
-    , λ c.
-      passes-yes pot weights amounts accepted
-      (verdicts.right-sum pot weights amounts (c .0) ∙ closest-level pot weights amounts positive alike (c .0) (c .1)))
+    let alike : length amounts ≡ length weights = sym (check-accepts pot weights amounts .0 accepted .1) in (
+      (λ y.
+          let both = passes-parts pot weights amounts (yes-passes pot weights amounts y .1) in
+          (both .0, level-closest pot weights amounts positive alike (both .0) (both .1))),
+      λ c.
+          passes-yes pot weights amounts accepted
+          (verdicts.right-sum pot weights amounts (c .0) ∙ closest-level pot weights amounts positive alike (c .0) (c .1)),
+    )
 
 pub passed-within-a-cent : (pot : ℕ) (weights amounts : List ℕ) → 0 < total weights → verdict pot weights amounts ≡ Yes
-  → (i : ℕ) → i < length weights → distance pot weights amounts i < total weights
+    → (i : ℕ) → i < length weights → distance pot weights amounts i < total weights
 passed-within-a-cent pot weights amounts positive y i b =
     let found = yes-passes pot weights amounts y in
     let both = passes-parts pot weights amounts (found .1) in
@@ -181,32 +187,33 @@ level-of-none : (pot : ℕ) (weights amounts : List ℕ) → total weights ≡ 0
 unfolding level
 level-of-none pot weights amounts z p =
     every-from (length weights) _ (λ i bi. every-from (length weights) _ (λ j bj.
-      le-leb (total weights * at amounts i + pot * at weights j) (total weights * at amounts j + pot * at weights i + total weights)
-      (let none : pot * at weights j ≡ 0 * at weights j = ap (λ k. k * at weights j) p in
-      let no-sum : total weights * at amounts i ≡ 0 * at amounts i = ap (λ w. w * at amounts i) z in
-      omega arith)))
+    le-leb (total weights * at amounts i + pot * at weights j) (total weights * at amounts j + pot * at weights i + total weights)
+    (let none : pot * at weights j ≡ 0 * at weights j = ap (λ k. k * at weights j) p in
+    let no-sum : total weights * at amounts i ≡ 0 * at amounts i = ap (λ w. w * at amounts i) z in
+    omega arith)))
 
 pub divisions-pass : (pot : ℕ) (weights : List ℕ) (room : ℕ) → divideRefusal pot weights room ≡ 0
-  → verdict pot weights (shares pot weights) ≡ Yes
+    → verdict pot weights (shares pot weights) ≡ Yes
 divisions-pass pot weights room e =
     let good = divide-accepts pot weights room .0 e in
     passes-yes pot weights (shares pot weights)
     (check-accepts pot weights (shares pot weights) .1 (good .0, sym (laws.length-shares pot weights), good .2, good .3, good .4))
     (verdicts.right-sum pot weights (shares pot weights) (laws.shares-add-up pot weights (good .4))
     ∙ ⊎-elim
-      (λ (z : total weights ≡ 0). level-of-none pot weights (shares pot weights) z (good .4 z))
-      (λ (d : total weights ≢ 0). shares-level pot weights (omega (arith, d)))
-      (zero-or-not (total weights)))
+    (λ (z : total weights ≡ 0). level-of-none pot weights (shares pot weights) z (good .4 z))
+    (λ (d : total weights ≢ 0). shares-level pot weights (omega (arith, d)))
+    (zero-or-not (total weights)))
 
 pub no-base-no-amounts : (weights amounts : List ℕ) → total weights ≡ 0 → checkRefusal 0 weights amounts ≡ 0
-  → (verdict 0 weights amounts ≡ Yes) ↔ ((i : ℕ) → at amounts i ≡ 0)
-no-base-no-amounts weights amounts z accepted =
-    ((λ y i.
+    → (verdict 0 weights amounts ≡ Yes) ↔ ((i : ℕ) → at amounts i ≡ 0)
+no-base-no-amounts weights amounts z accepted = (
+  (λ y i.
       let sum : total amounts ≡ 0 = passes-parts 0 weights amounts (yes-passes 0 weights amounts y .1) .0 in
       ⊎-elim
       (λ (b : i < length amounts). let most : at amounts i ≤ total amounts = le-sum (length amounts) (at amounts) i b in omega arith)
       (λ (o : length amounts ≤ i). List·getD-eq-default amounts 0 o)
-      (lt-or-le i (length amounts)))
-    , λ none.
+      (lt-or-le i (length amounts))),
+  λ none.
       passes-yes 0 weights amounts accepted
-      (verdicts.right-sum 0 weights amounts (sum-zero (length amounts) (at amounts) (λ i b. none i)) ∙ level-of-none 0 weights amounts z refl))
+      (verdicts.right-sum 0 weights amounts (sum-zero (length amounts) (at amounts) (λ i b. none i)) ∙ level-of-none 0 weights amounts z refl),
+)

@@ -20,13 +20,13 @@ use Rattle.division.proofs.Passing as passing
 -- a good division is never refused, and no other is accepted: at most 64 weights, as many words of room, a pot and a sum
 -- of weights within their limits, and a sum above zero unless the pot is zero
 pub divide-accepts : (pot : ℕ) (weights : List ℕ) (room : ℕ)
-  → (divideRefusal pot weights room ≡ 0)
+    → (divideRefusal pot weights room ≡ 0)
     ↔ ((length weights ≤ mostWeights) × (length weights ≤ room) × (pot ≤ potLimit) × (total weights ≤ weightLimit) × (total weights ≡ 0 → pot ≡ 0))
 divide-accepts = passing.divide-accepts
 
 -- likewise the check: at most 64 weights, as many amounts, and the same of the sizes
 pub check-accepts : (pot : ℕ) (weights amounts : List ℕ)
-  → (checkRefusal pot weights amounts ≡ 0)
+    → (checkRefusal pot weights amounts ≡ 0)
     ↔ ((length weights ≤ mostWeights) × (length weights ≡ length amounts) × (pot ≤ potLimit) × (total weights ≤ weightLimit) × (total weights ≡ 0 → pot ≡ 0))
 check-accepts = passing.check-accepts
 
@@ -40,25 +40,25 @@ no-pot-no-shares = passing.no-pot-no-shares
 
 -- each share is its quotient or one cent more ..
 pub quotient-or-one-more : (pot : ℕ) (weights : List ℕ) (i : ℕ)
-  → (share pot weights i ≡ quotient pot weights i) ⊎ (share pot weights i ≡ quotient pot weights i + 1)
+    → (share pot weights i ≡ quotient pot weights i) ⊎ (share pot weights i ≡ quotient pot weights i + 1)
 quotient-or-one-more = passing.quotient-or-one-more
 
 -- .. and less than one cent from the exact share
 pub share-within-a-cent : (pot : ℕ) (weights : List ℕ) → 0 < total weights
-  → (i : ℕ) → i < length weights → distance pot weights (shares pot weights) i < total weights
+    → (i : ℕ) → i < length weights → distance pot weights (shares pot weights) i < total weights
 share-within-a-cent = passing.share-within-a-cent
 
 -- "The cents left over go one each": as many positions get a cent as there are cents left over ..
 pub leftover-cents-go-one-each : (pot : ℕ) (weights : List ℕ) → 0 < total weights
-  → count (length weights) (getsCent pot weights) ≡ leftover pot weights
+    → count (length weights) (getsCent pot weights) ≡ leftover pot weights
 leftover-cents-go-one-each = parts.winners
 
 -- ".. to the largest remainders, lower position first among equals": where a position gets one, every position with a larger
 -- remainder gets one, and every lower position with an equal remainder
 pub leftover-cents-to-the-largest : (pot : ℕ) (weights : List ℕ) → 0 < total weights
-  → (i j : ℕ) → i < length weights → j < length weights
-  → (remainder pot weights i < remainder pot weights j) ⊎ ((remainder pot weights i ≡ remainder pot weights j) × (j < i))
-  → getsCent pot weights i ≡ true → getsCent pot weights j ≡ true
+    → (i j : ℕ) → i < length weights → j < length weights
+    → (remainder pot weights i < remainder pot weights j) ⊎ ((remainder pot weights i ≡ remainder pot weights j) × (j < i))
+    → getsCent pot weights i ≡ true → getsCent pot weights j ≡ true
 leftover-cents-to-the-largest = passing.leftover-cents-to-the-largest
 
 -- a share is the quotient, with one cent more exactly where the position gets one
@@ -68,25 +68,25 @@ share-and-cent = parts.share-is
 -- the check within the limits says yes exactly when the amounts add up to the pot and no list of whole numbers of the same
 -- length with that sum lies closer to the exact shares
 pub yes-means-closest : (pot : ℕ) (weights amounts : List ℕ) → 0 < total weights → checkRefusal pot weights amounts ≡ 0
-  → (verdict pot weights amounts ≡ Yes) ↔ ((total amounts ≡ pot) × Closest pot weights amounts)
+    → (verdict pot weights amounts ≡ Yes) ↔ ((total amounts ≡ pot) × Closest pot weights amounts)
 yes-means-closest = passing.yes-means-closest
 
 -- otherwise it says no
 pub yes-or-no : (pot : ℕ) (weights amounts : List ℕ) → checkRefusal pot weights amounts ≡ 0
-  → (verdict pot weights amounts ≡ Yes) ⊎ (verdict pot weights amounts ≡ No)
+    → (verdict pot weights amounts ≡ Yes) ⊎ (verdict pot weights amounts ≡ No)
 yes-or-no = passing.yes-or-no
 
 -- each amount that it passes is less than one cent from its exact share
 pub passed-within-a-cent : (pot : ℕ) (weights amounts : List ℕ) → 0 < total weights → verdict pot weights amounts ≡ Yes
-  → (i : ℕ) → i < length weights → distance pot weights amounts i < total weights
+    → (i : ℕ) → i < length weights → distance pot weights amounts i < total weights
 passed-within-a-cent = passing.passed-within-a-cent
 
 -- it passes every division that we make
 pub divisions-pass : (pot : ℕ) (weights : List ℕ) (room : ℕ) → divideRefusal pot weights room ≡ 0
-  → verdict pot weights (shares pot weights) ≡ Yes
+    → verdict pot weights (shares pot weights) ≡ Yes
 divisions-pass = passing.divisions-pass
 
 -- "For W and P both zero it says yes exactly when all amounts are zero"
 pub no-base-no-amounts : (weights amounts : List ℕ) → total weights ≡ 0 → checkRefusal 0 weights amounts ≡ 0
-  → (verdict 0 weights amounts ≡ Yes) ↔ ((i : ℕ) → at amounts i ≡ 0)
+    → (verdict 0 weights amounts ≡ Yes) ↔ ((i : ℕ) → at amounts i ≡ 0)
 no-base-no-amounts = passing.no-base-no-amounts

@@ -25,8 +25,8 @@ unfolding sizeRefusal
 capped-size pot w =
     ⊎-elim
     (λ (over : weightLimit < w).
-      ap (sizeRefusal pot) (min-eq-right over)
-      ∙ simp (or-true, lt-ltb weightLimit w over))
+    ap (sizeRefusal pot) (min-eq-right over)
+    ∙ simp (or-true, lt-ltb weightLimit w over))
     (λ (fits : w ≤ weightLimit). ap (sizeRefusal pot) (min-eq-left (let h : w ≤ 10_000_000_000_001 = omega arith in h)))
     (lt-or-le weightLimit w)
 
@@ -49,12 +49,12 @@ module _ (pot : ℕ) (weights : List ℕ) (room : ℕ) where
 
 -- a refusal leaves the lent words, and acceptance stores the shares
 pub memory-kept : (pot : ℕ) (weights out : List ℕ) (number : ℕ) → divideRefusal pot weights (length out) ≡ number → (number ≡ 0 → ⊥)
-  → out ≡ memory pot weights out
+    → out ≡ memory pot weights out
 unfolding memory
 memory-kept pot weights out number e d = rw (ne-eqb (divideRefusal pot weights (length out)) 0 (λ z. d (sym e ∙ z)))
 
 pub memory-shared : (pot : ℕ) (weights out : List ℕ) → divideRefusal pot weights (length out) ≡ 0 → length weights ≤ length out
-  → put (length weights) (share pot weights) out ≡ memory pot weights out
+    → put (length weights) (share pot weights) out ≡ memory pot weights out
 unfolding memory shares
 memory-shared pot weights out e room =
     put-listed (length weights) (share pot weights) out room
@@ -62,11 +62,11 @@ memory-shared pot weights out e room =
 
 -- the code's capped sum and number, once the counts are right
 pub number-is : (pot : ℕ) (weights : List ℕ) (sum number : ℕ) → sum ≡ min (total weights) 10_000_000_000_001 → number ≡ sizeRefusal pot sum
-  → sizeRefusal pot (total weights) ≡ number
+    → sizeRefusal pot (total weights) ≡ number
 number-is pot weights sum number e f = sym (capped-size pot (total weights)) ∙ ap (sizeRefusal pot) (sym e) ∙ sym f
 
 pub sum-is : (pot : ℕ) (weights : List ℕ) (sum : ℕ) → sum ≡ min (total weights) 10_000_000_000_001 → sizeRefusal pot sum ≡ 0
-  → sum ≡ total weights
+    → sum ≡ total weights
 sum-is pot weights sum e f = e ∙ capped-same pot (total weights) (ap (sizeRefusal pot) (sym e) ∙ f)
 
 -- an answer with no place: what `divide` answers
@@ -74,12 +74,12 @@ abbrev Answers : Division → ℕ → Type 0
 Answers r number = (r .answer .number ≡ number) × (r .answer .table ≡ 0) × (r .answer .row ≡ 0)
 
 pub refused : (pot : ℕ) (weights out : List ℕ) (r : Division) (number : ℕ) → Answers r number
-  → divideRefusal pot weights (length out) ≡ number → (number ≡ 0 → ⊥) → Divided pot weights out out r
+    → divideRefusal pot weights (length out) ≡ number → (number ≡ 0 → ⊥) → Divided pot weights out out r
 refused pot weights out r number a e d =
     record { number = a .0 ∙ sym e; table = a .1; row = a .2; lent = memory-kept pot weights out number e d }
 
 pub divided : (pot : ℕ) (weights out after : List ℕ) (r : Division) → Answers r 0
-  → divideRefusal pot weights (length out) ≡ 0 → length weights ≤ length out
-  → after ≡ put (length weights) (share pot weights) out → Divided pot weights out after r
+    → divideRefusal pot weights (length out) ≡ 0 → length weights ≤ length out
+    → after ≡ put (length weights) (share pot weights) out → Divided pot weights out after r
 divided pot weights out after r a e room stored =
     record { number = a .0 ∙ sym e; table = a .1; row = a .2; lent = stored ∙ memory-shared pot weights out e room }

@@ -19,10 +19,10 @@ fewer-larger : (keys : List ℕ) (x y : ℕ) → x ≤ y → larger keys y ≤ l
 fewer-larger keys x y h =
     sum-le (length keys) (λ j. bit (ltb y (at keys j))) (λ j. bit (ltb x (at keys j)))
     (λ j b.
-      ⊎-elim
-      (λ (l : x < at keys j). le-trans (bit-le (ltb y (at keys j))) (le-of-eq (sym (ap bit (lt-ltb x (at keys j) l)))))
-      (λ (g : at keys j ≤ x). let none : bit (ltb y (at keys j)) ≡ 0 = ap bit (le-ltb y (at keys j) (le-trans g h)) in omega arith)
-      (lt-or-le x (at keys j)))
+    ⊎-elim
+    (λ (l : x < at keys j). le-trans (bit-le (ltb y (at keys j))) (le-of-eq (sym (ap bit (lt-ltb x (at keys j) l)))))
+    (λ (g : at keys j ≤ x). let none : bit (ltb y (at keys j)) ≡ 0 = ap bit (le-ltb y (at keys j) (le-trans g h)) in omega arith)
+    (lt-or-le x (at keys j)))
 
 module _ (left : ℕ) (keys : List ℕ) where
   -- before any key is looked at
@@ -37,14 +37,14 @@ module _ (left : ℕ) (keys : List ℕ) where
     gets-one some =
         record {
           between = record { some = λ x fits h. omega (arith, fewer-larger keys key x h); none = known .none };
-          settled = inr (le-refl key)
+          settled = inr (le-refl key);
         }
 
     pub gets-none : left ≤ larger keys key → Settling left keys key (key + 1) high
     gets-none none =
         record {
           between = record { some = known .some; none = λ x fits h. le-trans none (fewer-larger keys x key (omega arith)) };
-          settled = inl (omega arith)
+          settled = inl (omega arith);
         }
 
   -- the test that the code makes
@@ -52,9 +52,9 @@ module _ (left : ℕ) (keys : List ℕ) where
   told key low high fits s =
       ⊎-elim
       (λ (h : key < high).
-        ⊎-elim
-        (λ (l : key < low). ap bit (lt-leb high key h ∙ sym (le-ltb (larger keys key) left (s .between .none key fits l))))
-        (λ (g : high ≤ key). absurd (omega arith))
-        (s .settled))
+      ⊎-elim
+      (λ (l : key < low). ap bit (lt-leb high key h ∙ sym (le-ltb (larger keys key) left (s .between .none key fits l))))
+      (λ (g : high ≤ key). absurd (omega arith))
+      (s .settled))
       (λ (h : high ≤ key). ap bit (le-leb high key h ∙ sym (lt-ltb (larger keys key) left (s .between .some key fits h))))
       (lt-or-le key high)

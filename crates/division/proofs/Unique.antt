@@ -10,7 +10,7 @@ use Rattle.division.specs.declared.Division.{Division}
 use Rattle.division.specs.declared.Verdict.{Verdict}
 
 pub divide-unique : (pot : ℕ) (weights before after after′ : List ℕ) (r r′ : Division)
-  → Divided pot weights before after r → Divided pot weights before after′ r′ → (r ≡ r′) × (after ≡ after′)
+    → Divided pot weights before after r → Divided pot weights before after′ r′ → (r ≡ r′) × (after ≡ after′)
 divide-unique pot weights before after after′ r r′ d d′ =
     let number : r .answer .number ≡ r′ .answer .number = d .number ∙ sym (d′ .number) in
     let table : r .answer .table ≡ r′ .answer .table = d .table ∙ sym (d′ .table) in
@@ -18,5 +18,5 @@ divide-unique pot weights before after after′ r r′ d d′ =
     ((λ i. record { answer = record { number = number i; table = table i; row = row i } }), d .lent ∙ sym (d′ .lent))
 
 pub check-unique : (pot : ℕ) (weights amounts : List ℕ) (r r′ : Verdict)
-  → r ≡ verdict pot weights amounts → r′ ≡ verdict pot weights amounts → r ≡ r′
+    → r ≡ verdict pot weights amounts → r′ ≡ verdict pot weights amounts → r ≡ r′
 check-unique pot weights amounts r r′ e e′ = e ∙ sym e′

@@ -1,6 +1,5 @@
 // The shares: whole cents first, then the cents left over one each to the largest remainders.
 use crate::quotients;
-
 ghost use mathlib.Core.Path.{_≡_};
 ghost use Prim.Native.Nat.{ℕ, _*_, _/_, _%_, _^_, _≤_, _<_, _+_, _-_};
 ghost use lib.ListN.{length};
@@ -25,7 +24,14 @@ fn key(rest: u64, i: usize) -> u64
 }
 
 // Cuts one weight's share down to whole cents, and gives these back.
-fn cut_one(pot: u64, weights: &[u64], whole: u64, i: usize, out: &mut [u64], keys: &mut [u64]) -> u64
+fn cut_one(
+    pot: u64,
+    weights: &[u64],
+    whole: u64,
+    i: usize,
+    out: &mut [u64],
+    keys: &mut [u64],
+) -> u64
     requires { ⌜ Base pot (now weights) whole ⌝ }
     requires { ⌜ Room (now weights) (now out) (now keys) ⌝ }
     requires { ⌜ i < length (now weights) ⌝ }
@@ -37,13 +43,27 @@ fn cut_one(pot: u64, weights: &[u64], whole: u64, i: usize, out: &mut [u64], key
     part.cents
 }
 
-fn cut_four(pot: u64, weights: &[u64], whole: u64, i: usize, out: &mut [u64], keys: &mut [u64]) -> u64
+fn cut_four(
+    pot: u64,
+    weights: &[u64],
+    whole: u64,
+    i: usize,
+    out: &mut [u64],
+    keys: &mut [u64],
+) -> u64
     requires { ⌜ Base pot (now weights) whole ⌝ }
     requires { ⌜ Room (now weights) (now out) (now keys) ⌝ }
     requires { ⌜ i + 3 < length (now weights) ⌝ }
     ensures { λ r. ⌜ Cut pot (now (weights .entry)) whole i (i + 4) (now (out .entry)) (now (out .exit)) (now (keys .entry)) (now (keys .exit)) r ⌝ }
 {
-    let parts = quotients::quotients(pot, weights[i], weights[i + 1], weights[i + 2], weights[i + 3], whole);
+    let parts = quotients::quotients(
+        pot,
+        weights[i],
+        weights[i + 1],
+        weights[i + 2],
+        weights[i + 3],
+        whole,
+    );
     let first = parts.first;
     let second = parts.second;
     let third = parts.third;
@@ -75,7 +95,14 @@ fn cut_fours(pot: u64, weights: &[u64], whole: u64, out: &mut [u64], keys: &mut 
 }
 
 // The weights from a position on, one at a time.
-fn cut_rest(pot: u64, weights: &[u64], whole: u64, from: usize, out: &mut [u64], keys: &mut [u64]) -> u64
+fn cut_rest(
+    pot: u64,
+    weights: &[u64],
+    whole: u64,
+    from: usize,
+    out: &mut [u64],
+    keys: &mut [u64],
+) -> u64
     requires { ⌜ Base pot (now weights) whole ⌝ }
     requires { ⌜ Room (now weights) (now out) (now keys) ⌝ }
     requires { ⌜ from ≤ length (now weights) ⌝ }

@@ -1,8 +1,11 @@
 // Dividing a pot by weights (`divide`), and judging a division that anyone hands in (`check`). Every share is first cut down
 // to whole cents, and the cents left over go one each to the largest fractions cut off, lower position first. `specs/` says
 // what is right, `proofs/Promises.antt` what follows from it, and `proofs/Laws.antt` what the crates above may cite.
-use answer::{ACCEPTED, Answer, COUNT, HEAD, ROOM};
-
+use answer::ACCEPTED;
+use answer::Answer;
+use answer::COUNT;
+use answer::HEAD;
+use answer::ROOM;
 ghost use mathlib.Core.Path.{_≡_};
 ghost use Rattle.division.specs.Shares.{Divided};
 ghost use Rattle.division.specs.Check.{verdict};

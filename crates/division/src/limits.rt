@@ -1,13 +1,16 @@
 // The limits of a division, sums that never wrap, and the refusals that go by size.
-use answer::{ACCEPTED, BASE, BIG};
-
+use answer::ACCEPTED;
+use answer::BASE;
+use answer::BIG;
 ghost use mathlib.Core.Path.{_≡_};
 ghost use Prim.Native.Nat.{_+_, _≤_, min};
 ghost use Rattle.lists.specs.Sums.{total};
 ghost use Rattle.division.specs.Limits.{sizeRefusal};
 
 pub const MOST_WEIGHTS: usize = 64;
+
 pub const POT_LIMIT: u64 = 100_000_000_000;
+
 pub const WEIGHT_LIMIT: u64 = 10_000_000_000_000;
 
 fn add_capped(sum: u64, number: u64, cap: u64) -> u64

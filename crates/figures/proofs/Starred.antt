@@ -28,5 +28,5 @@ starred =
       C1-other = refl;
       C2 = refl;
       N1 = refl;
-      M1 = refl
+      M1 = refl;
     }

@@ -1,6 +1,9 @@
 // The figures of the check: C1 to C3, divisions of other figures handed back to it, amounts of any size, and its refusals.
 use crate::limits::COUNTING;
-use crate::print::{answer_name, list, pot_by_weights, text};
+use crate::print::answer_name;
+use crate::print::list;
+use crate::print::pot_by_weights;
+use crate::print::text;
 use division::Verdict;
 
 fn verdict_name(verdict: Verdict) {
@@ -39,7 +42,12 @@ fn without_base() {
 fn sums() {
     check(b"a cent short", 100, &[1, 1, 1], &[33, 33, 33]);
     check(b"largest amount", 1, &[1], &[18_446_744_073_709_551_615]);
-    check(b"amounts past 2^64", 100, &[1, 1], &[18_446_744_073_709_551_615, 101]);
+    check(
+        b"amounts past 2^64",
+        100,
+        &[1, 1],
+        &[18_446_744_073_709_551_615, 101],
+    );
     check(
         b"amounts past 2^64",
         0,
@@ -49,9 +57,24 @@ fn sums() {
 }
 
 fn large() {
-    check(b"D8 checked", 100_000_000_000, &[9_999_999_999_999, 1], &[100_000_000_000, 0]);
-    check(b"D8 checked", 100_000_000_000, &[9_999_999_999_999, 1], &[99_999_999_999, 1]);
-    check(b"D8 checked", 100_000_000_000, &[9_999_999_999_999, 2], &[100_000_000_000, 0]);
+    check(
+        b"D8 checked",
+        100_000_000_000,
+        &[9_999_999_999_999, 1],
+        &[100_000_000_000, 0],
+    );
+    check(
+        b"D8 checked",
+        100_000_000_000,
+        &[9_999_999_999_999, 1],
+        &[99_999_999_999, 1],
+    );
+    check(
+        b"D8 checked",
+        100_000_000_000,
+        &[9_999_999_999_999, 2],
+        &[100_000_000_000, 0],
+    );
     check(b"D8 checked", 100_000_000_001, &[1], &[100_000_000_001]);
 }
 

@@ -1,6 +1,8 @@
 // The figures of the division: D1 to D8, and the divisions that B1 is made of.
-use crate::print::{answer_name, list, pot_by_weights, text};
-
+use crate::print::answer_name;
+use crate::print::list;
+use crate::print::pot_by_weights;
+use crate::print::text;
 ghost use Prim.Native.Nat.{_≤_};
 
 // Divides a pot by weights into lent words. Before the last colon stand the words as they were, after it the answer and the

@@ -1,7 +1,10 @@
 // The figures of the month: N1 and N2, M1, and the lengths of February and April.
-use crate::print::{answer_name, number, text};
-use month::{Made, Month, TenthMwDays};
-
+use crate::print::answer_name;
+use crate::print::number;
+use crate::print::text;
+use month::Made;
+use month::Month;
+use month::TenthMwDays;
 ghost use Prim.Native.Nat.{_≤_};
 ghost use Rattle.month.specs.Limits.{mostAnnual, mostContributions, mostRate};
 ghost use Rattle.month.specs.Months.{months};

@@ -43,10 +43,10 @@ module _ (p : Pots) (z : ℕ) (fine : refusal p z ≡ 0) where
   members-have-all =
       sum-eq (p .members) (λ i. when (isMember p z i) (amount p z i)) (amount p z)
       (λ i b.
-        ⊎-elim
-        (λ (m : isMember p z i ≡ true). when-true (isMember p z i) (amount p z i) m)
-        (λ (m : isMember p z i ≡ false). when-zero (isMember p z i) (amount p z i) (others-none i b m) ∙ sym (others-none i b m))
-        (true-or-false (isMember p z i)))
+      ⊎-elim
+      (λ (m : isMember p z i ≡ true). when-true (isMember p z i) (amount p z i) m)
+      (λ (m : isMember p z i ≡ false). when-zero (isMember p z i) (amount p z i) (others-none i b m) ∙ sym (others-none i b m))
+      (true-or-false (isMember p z i)))
       ∙ pot-divided
 
 -- dividing among a group is dividing among its members alone
@@ -65,7 +65,7 @@ module _ (p : Pots) (z : ℕ) where
 
   -- the paper's words: a member's amount is its share where the group's members are a list of their own, at its place there ..
   pub amount-alone : refusal p z ≡ 0 → (i : ℕ) → i < p .members → isMember p z i ≡ true
-    → amount p z i ≡ at (shares (p .pot z) (alone p z)) (count i (isMember p z))
+      → amount p z i ≡ at (shares (p .pot z) (alone p z)) (count i (isMember p z))
   unfolding refusal amount weightsIn among masked
   amount-alone fine i b m =
       share-alone (p .members) masked (isMember p z) not-members (p .pot z) fine i b m
@@ -88,14 +88,14 @@ module _ (p : Pots) (fine : (z : ℕ) → z < p .groups → refusal p z ≡ 0) w
 
   -- a member of group z, where no other group has its number, has what it has from its own group
   pub from-own-group : (i z : ℕ) → i < p .members → z < p .groups → isMember p z i ≡ true
-    → ((y : ℕ) → y < p .groups → y ≢ z → p .groupNumber y ≢ p .groupNumber z) → amounts p i ≡ amount p z i
+      → ((y : ℕ) → y < p .groups → y ≢ z → p .groupNumber y ≢ p .groupNumber z) → amounts p i ≡ amount p z i
   unfolding amounts
   from-own-group i z b l m distinct =
       sum-one (p .groups) (λ y. amount p y i) z l
       (λ y h d.
-        others-none p y (fine y h) i b
-        (ne-eqb (p .groupOf i) (p .groupNumber y)
-          (λ e. distinct y h d (sym e ∙ eqb-true (p .groupOf i) (p .groupNumber z) m))))
+      others-none p y (fine y h) i b
+      (ne-eqb (p .groupOf i) (p .groupNumber y)
+      (λ e. distinct y h d (sym e ∙ eqb-true (p .groupOf i) (p .groupNumber z) m))))
 
   -- who has no weight, and who is in no group, has nothing
   pub weightless-none-at-all : (i : ℕ) → i < p .members → p .weight i ≡ 0 → amounts p i ≡ 0
@@ -134,16 +134,16 @@ refused-at p place bad =
     let stopped : StoppedAt judge (p .groups) (turns judge (p .groups)) = turns-refused judge (p .groups) bad in
     let z : ℕ = stopped .turn in
     let number : turns judge (p .groups) .number ≡ refusal p z =
-          ap (λ (a : Answer). a .number) (stopped .its) ∙ refuse-number (refusal p z) divisions (place + z) in
+    ap (λ (a : Answer). a .number) (stopped .its) ∙ refuse-number (refusal p z) divisions (place + z) in
     let whole : turns judge (p .groups) ≡ record { number = refusal p z; table = divisions; row = place + z } =
-          stopped .its ∙ refuse-some (refusal p z) divisions (place + z) (λ e. bad (number ∙ e)) in
+    stopped .its ∙ refuse-some (refusal p z) divisions (place + z) (λ e. bad (number ∙ e)) in
     record {
       group = z;
       one-of-them = stopped .within;
       its-number = number;
       its-table = ap (λ (a : Answer). a .table) whole;
       its-place = ap (λ (a : Answer). a .row) whole;
-      earlier-fine = λ y b. sym (refuse-number (refusal p y) divisions (place + y)) ∙ stopped .earlier y b
+      earlier-fine = λ y b. sym (refuse-number (refusal p y) divisions (place + y)) ∙ stopped .earlier y b;
     }
   where
     judge : ℕ → Answer

@@ -24,17 +24,17 @@ sum-one zero f k h none = absurd (not-suc-le-zero h)
 sum-one (suc n) f k h none =
     ⊎-elim
     (λ (e : k ≡ n).
-      let before : sumTo n f ≡ 0 = sum-zero n f (λ i b. none i (le-step b) (λ q. ne-of-lt b (q ∙ e))) in
-      let last : f k ≡ f n = ap f e in
-      omega arith)
+    let before : sumTo n f ≡ 0 = sum-zero n f (λ i b. none i (le-step b) (λ q. ne-of-lt b (q ∙ e))) in
+    let last : f k ≡ f n = ap f e in
+    omega arith)
     (λ (b : k < n).
-      let last : f n ≡ 0 = none n (lt-suc-self n) (λ q. ne-of-lt b (sym q)) in
-      omega (arith, sum-one n f k b (λ i l. none i (le-step l))))
+    let last : f n ≡ 0 = none n (lt-suc-self n) (λ q. ne-of-lt b (sym q)) in
+    omega (arith, sum-one n f k b (λ i l. none i (le-step l))))
     (last-or-below n k h)
 
 -- what is taken out goes by the members' entries alone
 pub kept-eq : (n : ℕ) (member : ℕ → Bool) (f g : ℕ → ℕ) → ((i : ℕ) → i < n → member i ≡ true → f i ≡ g i)
-  → kept n member f ≡ kept n member g
+    → kept n member f ≡ kept n member g
 unfolding kept
 kept-eq zero member f g e = refl
 kept-eq (suc n) member f g e =
@@ -91,7 +91,7 @@ module _ (n : ℕ) (weight : ℕ → ℕ) (member : ℕ → Bool) (others : (i :
 
   -- .. and each has the same share, at its place among them
   pub share-alone : (pot : ℕ) → sizeRefusal pot (total (listed n weight)) ≡ 0 → (i : ℕ) → i < n → member i ≡ true
-    → at (shares pot (listed n weight)) i ≡ at (shares pot (kept n member weight)) (count i member)
+      → at (shares pot (listed n weight)) i ≡ at (shares pot (kept n member weight)) (count i member)
   share-alone pot fine i b m =
       shares-among pot (listed n weight) member (size-accepted pot (total (listed n weight)) fine .2) others-zero i (rw length-listed b) m
       ∙ ap (λ l. at (shares pot l) (count i member)) taken-out

@@ -22,11 +22,11 @@ use Rattle.groups.proofs.Turns.{turns-eq}
 
 -- what is written, where the values and the answer are the same
 pub same-written : {n : ℕ} {f : ℕ → ℕ} {answer : Answer} {before after : List ℕ} {r : Answer} → Written n f answer before after r
-  → {m : ℕ} {g : ℕ → ℕ} {other : Answer} → n ≡ m → ((i : ℕ) → i < n → f i ≡ g i) → answer ≡ other → Written m g other before after r
+    → {m : ℕ} {g : ℕ → ℕ} {other : Answer} → n ≡ m → ((i : ℕ) → i < n → f i ≡ g i) → answer ≡ other → Written m g other before after r
 same-written {n} {f} {answer} {before} {after} {r} w {m} {g} {other} e v a =
     record {
       answers = w .answers ∙ a;
-      lent = w .lent ∙ ap (λ l. cond (eqb (r .number) 0) l before) (put-eq n f g before v ∙ ap (λ k. put k g before) e)
+      lent = w .lent ∙ ap (λ l. cond (eqb (r .number) 0) l before) (put-eq n f g before v ∙ ap (λ k. put k g before) e);
     }
 
 pub record Same (p q : Pots) : Type 0 where
@@ -72,9 +72,9 @@ module _ {p q : Pots} (s : Same p q) where
 
 -- the lists that a caller fills from its pots
 pub filled : (p : Pots)
-  → Same
+    → Same
     (potsOf (listed (p .groups) (p .pot)) (listed (p .groups) (p .groupNumber)) (listed (p .members) (p .weight))
-      (listed (p .members) (p .groupOf)))
+    (listed (p .members) (p .groupOf)))
     p
 filled p =
     record {
@@ -83,5 +83,5 @@ filled p =
       same-weight = λ i b. at-listed (p .members) (p .weight) i (rw length-listed at b);
       same-groups = length-listed (p .groups) (p .groupNumber);
       same-number = λ z b. at-listed (p .groups) (p .groupNumber) z (rw length-listed at b);
-      same-pot = λ z b. at-listed (p .groups) (p .pot) z (rw length-listed at b)
+      same-pot = λ z b. at-listed (p .groups) (p .pot) z (rw length-listed at b);
     }

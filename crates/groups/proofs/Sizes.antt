@@ -31,6 +31,6 @@ never-base pot w base = rw based (look-either (isBig pot w) BIG)
         ⊎-elim
         (λ (some : 0 < w). rw (ne-eqb w 0 (λ e. omega arith)) (and-false (ltb 0 pot)))
         (λ (no : w ≤ 0).
-          let z : pot ≡ 0 = base (omega arith) in
-          rw (le-ltb 0 pot (omega arith)))
+        let z : pot ≡ 0 = base (omega arith) in
+        rw (le-ltb 0 pot (omega arith)))
         (lt-or-le 0 w)

@@ -57,8 +57,8 @@ module _ {n : ℕ} {f : ℕ → ℕ} {answer : Answer} {sums : List ℕ} {r : An
         record {
           answers = m .answers;
           lent =
-            e
-            ∙ ap (λ k. put k (at (take n sums)) before) made-long
-            ∙ put-eq n (at (take n sums)) f before (λ i b. getD-take n sums i 0 b ∙ m .values fine i b)
-            ∙ (rw (eq-eqb (r .number) 0 fine))
+              e
+              ∙ ap (λ k. put k (at (take n sums)) before) made-long
+              ∙ put-eq n (at (take n sums)) f before (λ i b. getD-take n sums i 0 b ∙ m .values fine i b)
+              ∙ (rw (eq-eqb (r .number) 0 fine));
         }

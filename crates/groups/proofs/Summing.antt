@@ -41,7 +41,7 @@ summed-none p few =
       few = few;
       long = few;
       fine = λ y b. absurd (omega arith);
-      sums = λ i b. getD-replicate mostWeights i 0 0 (le-trans b few) ∙ sym (sum-none (λ y. amount p y i))
+      sums = λ i b. getD-replicate mostWeights i 0 0 (le-trans b few) ∙ sym (sum-none (λ y. amount p y i));
     }
 
 module _ {p : Pots} {z : ℕ} {column : List ℕ} (s : Summed p z column) where
@@ -52,33 +52,33 @@ module _ {p : Pots} {z : ℕ} {column : List ℕ} (s : Summed p z column) where
         few = s .few;
         long = s .long;
         room = λ i b.
-          let most : sumTo z (λ y. amount p y i) ≤ z * potLimit =
-                le-trans
-                (sum-le z (λ y. amount p y i) (λ y. potLimit) (λ y l. amount-fits p y (s .fine y l) i))
-                (le-of-eq (sum-const z potLimit)) in
-          omega (arith, s .sums i b)
+            let most : sumTo z (λ y. amount p y i) ≤ z * potLimit =
+            le-trans
+            (sum-le z (λ y. amount p y i) (λ y. potLimit) (λ y l. amount-fits p y (s .fine y l) i))
+            (le-of-eq (sum-const z potLimit)) in
+            omega (arith, s .sums i b);
       }
 
   -- one group more, whose shares are added
   pub summed-more : (after : List ℕ) (number : ℕ) → Added (p .pot z) (weightsIn p z) column after number → number ≡ 0
-    → Summed p (z + 1) after
+      → Summed p (z + 1) after
   unfolding refusal amount
   summed-more after number a e =
       let stored : after ≡ put (p .members) (λ i. at column i + amount p z i) column =
-            a .lent ∙ (rw (eq-eqb number 0 e)) ∙ ap (λ n. put n (λ i. at column i + amount p z i) column) (length-weights p z) in
+      a .lent ∙ (rw (eq-eqb number 0 e)) ∙ ap (λ n. put n (λ i. at column i + amount p z i) column) (length-weights p z) in
       record {
         few = s .few;
         long = le-trans (s .long) (le-of-eq (sym (ap length stored ∙ length-put (p .members) _ column)));
         fine = λ y b.
-          ⊎-elim
-          (λ (q : y ≡ z). ap (refusal p) q ∙ sym (a .number) ∙ e)
-          (λ (l : y < z). s .fine y l)
-          (last-or-below z y (rw add-one at b));
+            ⊎-elim
+            (λ (q : y ≡ z). ap (refusal p) q ∙ sym (a .number) ∙ e)
+            (λ (l : y < z). s .fine y l)
+            (last-or-below z y (rw add-one at b));
         sums = λ i b.
-          ap (λ l. at l i) stored
-          ∙ at-put (p .members) _ column (s .long) i b
-          ∙ ap (λ n. n + amount p z i) (s .sums i b)
-          ∙ sym (sum-suc z (λ y. amount p y i))
+            ap (λ l. at l i) stored
+            ∙ at-put (p .members) _ column (s .long) i b
+            ∙ ap (λ n. n + amount p z i) (s .sums i b)
+            ∙ sym (sum-suc z (λ y. amount p y i));
       }
 
   none-before : (place : ℕ) → (y : ℕ) → y < z → refuse (refusal p y) divisions (place + y) ≡ accepted
@@ -86,33 +86,33 @@ module _ {p : Pots} {z : ℕ} {column : List ℕ} (s : Summed p z column) where
 
   -- group z is the first that is refused
   pub summed-stop : (place : ℕ) → z < p .groups → (after : List ℕ) (number : ℕ) (r : Answer)
-    → Added (p .pot z) (weightsIn p z) column after number → number ≢ 0 → r ≡ refuse number divisions (place + z)
-    → GoneThrough p place after r
+      → Added (p .pot z) (weightsIn p z) column after number → number ≢ 0 → r ≡ refuse number divisions (place + z)
+      → GoneThrough p place after r
   unfolding groupsInTurn refusal
   summed-stop place b after number r a bad e =
       let refused : r .number ≢ 0 =
-            λ o. bad (sym (refuse-number number divisions (place + z)) ∙ ap (λ (q : Answer). q .number) (sym e) ∙ o) in
+      λ o. bad (sym (refuse-number number divisions (place + z)) ∙ ap (λ (q : Answer). q .number) (sym e) ∙ o) in
       record {
         answers =
-          e
-          ∙ ap (λ n. refuse n divisions (place + z)) (a .number)
-          ∙ sym
+            e
+            ∙ ap (λ n. refuse n divisions (place + z)) (a .number)
+            ∙ sym
             (turns-stop (λ y. refuse (refusal p y) divisions (place + y)) (p .groups) z b (none-before place)
-              (λ o. bad (a .number ∙ sym (refuse-number (refusal p z) divisions (place + z)) ∙ o)));
+            (λ o. bad (a .number ∙ sym (refuse-number (refusal p z) divisions (place + z)) ∙ o)));
         long = λ o. absurd (refused o);
-        values = λ o. absurd (refused o)
+        values = λ o. absurd (refused o);
       }
 
   -- all groups are divided
   pub summed-all : (place : ℕ) → z ≡ p .groups → (r : Answer) → r ≡ refuse 0 divisions place
-    → GoneThrough p place column r
+      → GoneThrough p place column r
   unfolding groupsInTurn amounts
   summed-all place e r o =
       record {
         answers =
-          o
-          ∙ refuse-none 0 divisions place refl
-          ∙ sym (turns-none (λ y. refuse (refusal p y) divisions (place + y)) (p .groups) (λ y b. none-before place y (rw e b)));
+            o
+            ∙ refuse-none 0 divisions place refl
+            ∙ sym (turns-none (λ y. refuse (refusal p y) divisions (place + y)) (p .groups) (λ y b. none-before place y (rw e b)));
         long = λ n. s .long;
-        values = λ n i b. s .sums i b ∙ ap (λ k. sumTo k (λ y. amount p y i)) e
+        values = λ n i b. s .sums i b ∙ ap (λ k. sumTo k (λ y. amount p y i)) e;
       }

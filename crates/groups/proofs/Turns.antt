@@ -42,11 +42,11 @@ turns-stop a zero i h fine bad = absurd (not-suc-le-zero h)
 turns-stop a (suc n) i h fine bad =
     ⊎-elim
     (λ (q : i ≡ n).
-      then-second (turns a n) (a n) (ap (λ (r : Answer). r .number) (turns-none a n (λ j b. fine j (rw q b))))
-      ∙ ap a (sym q))
+    then-second (turns a n) (a n) (ap (λ (r : Answer). r .number) (turns-none a n (λ j b. fine j (rw q b))))
+    ∙ ap a (sym q))
     (λ (b : i < n).
-      let before : turns a n ≡ a i = turns-stop a n i b fine bad in
-      then-first (turns a n) (a n) (λ z. bad (ap (λ (r : Answer). r .number) (sym before) ∙ z)) ∙ before)
+    let before : turns a n ≡ a i = turns-stop a n i b fine bad in
+    then-first (turns a n) (a n) (λ z. bad (ap (λ (r : Answer). r .number) (sym before) ∙ z)) ∙ before)
     (last-or-below n i h)
 
 -- what a refusal says: it is one of the answers, and none before it refuses
@@ -62,13 +62,13 @@ turns-refused a zero d = absurd (d refl)
 turns-refused a (suc n) d =
     ⊎-elim
     (λ (z : turns a n .number ≡ 0).
-      record { turn = n; within = lt-suc-self n; its = then-second (turns a n) (a n) z; earlier = turns-all a n z })
+    record { turn = n; within = lt-suc-self n; its = then-second (turns a n) (a n) z; earlier = turns-all a n z })
     (λ (e : turns a n .number ≢ 0).
-      let before : StoppedAt a n (turns a n) = turns-refused a n e in
-      record {
-        turn = before .turn;
-        within = le-step (before .within);
-        its = then-first (turns a n) (a n) e ∙ before .its;
-        earlier = before .earlier
-      })
+    let before : StoppedAt a n (turns a n) = turns-refused a n e in
+    record {
+      turn = before .turn;
+      within = le-step (before .within);
+      its = then-first (turns a n) (a n) e ∙ before .its;
+      earlier = before .earlier;
+    })
     (zero-or-not (turns a n .number))

@@ -16,26 +16,27 @@ use Rattle.groups.specs.Steps.{Kept}
 
 -- `divide_all` and `divide_among`
 pub added-unique : (pot : ℕ) (weights before after after′ : List ℕ) (r r′ : ℕ)
-  → Added pot weights before after r → Added pot weights before after′ r′ → (r ≡ r′) × (after ≡ after′)
+    → Added pot weights before after r → Added pot weights before after′ r′ → (r ≡ r′) × (after ≡ after′)
 added-unique pot weights before after after′ r r′ a a′ =
-    let same : r ≡ r′ = a .number ∙ sym (a′ .number) in
-    (same
-    , a .lent
-      ∙ ap (λ n. cond (eqb n 0) (put (length weights) (λ i. at before i + at (shares pot weights) i) before) before) same
-      ∙ sym (a′ .lent))
+    let same : r ≡ r′ = a .number ∙ sym (a′ .number) in (
+      same,
+      a .lent
+          ∙ ap (λ n. cond (eqb n 0) (put (length weights) (λ i. at before i + at (shares pot weights) i) before) before) same
+          ∙ sym (a′ .lent),
+    )
 
 -- `each_group`, and every call that writes so
 pub written-unique : (n : ℕ) (f : ℕ → ℕ) (answer : Answer) (before after after′ : List ℕ) (r r′ : Answer)
-  → Written n f answer before after r → Written n f answer before after′ r′ → (r ≡ r′) × (after ≡ after′)
+    → Written n f answer before after r → Written n f answer before after′ r′ → (r ≡ r′) × (after ≡ after′)
 written-unique n f answer before after after′ r r′ w w′ =
     let same : r ≡ r′ = w .answers ∙ sym (w′ .answers) in
     (same, w .lent ∙ ap (λ (a : Answer). cond (eqb (a .number) 0) (put n f before) before) same ∙ sym (w′ .lent))
 
 pub each-group-unique : (p : Pots) (place : ℕ) (before after after′ : List ℕ) (r r′ : Answer)
-  → Grouped p place before after r → Grouped p place before after′ r′ → (r ≡ r′) × (after ≡ after′)
+    → Grouped p place before after r → Grouped p place before after′ r′ → (r ≡ r′) × (after ≡ after′)
 each-group-unique p place = written-unique (p .members) (amounts p) (groupsInTurn p place)
 
 -- `columns::keep`; `columns::add` and `columns::store` say what the column is equal to
 pub keep-unique : (weights groups : List ℕ) (group : ℕ) (before after after′ : List ℕ)
-  → Kept weights groups group before after → Kept weights groups group before after′ → after ≡ after′
+    → Kept weights groups group before after → Kept weights groups group before after′ → after ≡ after′
 keep-unique weights groups group before after after′ k k′ = k .lent ∙ sym (k′ .lent)

@@ -67,7 +67,7 @@ potsOf pots numbers weights groups =
       weight = at weights;
       groups = length numbers;
       groupNumber = at numbers;
-      pot = at pots
+      pot = at pots;
     }
 
 -- What `each_group` answers and writes: what each member has in all.

@@ -1,8 +1,9 @@
 // Dividing a pot among the members of a group, a zone's owners or a zone's accounts, and adding the amounts to a column of words;
 // and one such division for each group in turn. A group is the whole list of members with weight 0 for all others, so that an
 // amount goes straight to its member's word. `specs/` says what each member has, `proofs/Laws.antt` what follows from it.
-use answer::{ACCEPTED, Answer, DIVISIONS};
-
+use answer::ACCEPTED;
+use answer::Answer;
+use answer::DIVISIONS;
 ghost use mathlib.Core.Path.{_≡_};
 ghost use Prim.Native.Nat.{_+_, _≤_, _<_, _^_};
 ghost use lib.ListN.{length};

@@ -35,7 +35,7 @@ whole-words these those e =
     let both = neither (not (eqb (length these % 8) 0)) (not (eqb (length those % 8) 0)) e in
     record {
       these-whole = eqb-true _ _ (not-false _ (both .0));
-      those-whole = eqb-true _ _ (not-false _ (both .1))
+      those-whole = eqb-true _ _ (not-false _ (both .1));
     }
 
 module _ (pot : ℕ) (weights amounts : List ℕ) where
@@ -49,7 +49,7 @@ module _ (pot : ℕ) (weights amounts : List ℕ) where
   refused number e d =
       record {
         answer = let z : number ≡ hostDivideRefusal pot weights amounts + 256 * 0 = omega arith in z;
-        lent = rw (ne-eqb (hostDivideRefusal pot weights amounts) 0 (λ z. d (sym e ∙ z)))
+        lent = rw (ne-eqb (hostDivideRefusal pot weights amounts) 0 (λ z. d (sym e ∙ z)));
       }
 
   pub divide-uneven : isUneven (length weights) (length amounts) ≡ true → hostDivideRefusal pot weights amounts ≡ 1
@@ -69,7 +69,7 @@ module _ (pot : ℕ) (weights amounts : List ℕ) where
 
   -- the check's answer in one word
   pub said : WholeWords weights amounts → (v : Verdict) → v ≡ verdict pot (numbers weights) (numbers amounts)
-    → word (numberOf v) (valueOf v) ≡ hostVerdict pot weights amounts
+      → word (numberOf v) (valueOf v) ≡ hostVerdict pot weights amounts
   unfolding hostVerdict
   said w v e =
       ap (λ u. word (numberOf u) (valueOf u)) e
@@ -82,47 +82,47 @@ module _ (pot : ℕ) (weights amounts : List ℕ) where
   check-unlike w few d =
       said w (Refused 1)
       (sym (laws.check-unlike pot (numbers weights) (numbers amounts) (rw length-numbers few)
-        (λ e. d (let words : length amounts / 8 ≡ length weights / 8 = sym (length-numbers amounts) ∙ e ∙ length-numbers weights in
-          omega (arith, w .these-whole, w .those-whole)))))
+      (λ e. d (let words : length amounts / 8 ≡ length weights / 8 = sym (length-numbers amounts) ∙ e ∙ length-numbers weights in
+      omega (arith, w .these-whole, w .those-whole)))))
 
   -- what the division of the numbers leaves in as much room as 64 weights can want
   module _ (w : WholeWords weights amounts) (few : length weights / 8 ≤ mostWeights) (room : ℕ) (is-room : room ≡ min (length amounts / 8) 64)
-    (out out′ : List ℕ) (long : length out ≡ room) (r : Division) (made : Divided pot (numbers weights) out out′ r)
+      (out out′ : List ℕ) (long : length out ≡ room) (r : Division) (made : Divided pot (numbers weights) out out′ r)
     where
-    pub number-is : hostDivideRefusal pot weights amounts ≡ r .answer .number
-    number-is =
-        refusal-even w
-        ∙ sym (laws.enough-room pot (numbers weights) (length amounts / 8) (rw length-numbers few))
-        ∙ ap (divideRefusal pot (numbers weights)) (sym (long ∙ is-room))
-        ∙ sym (made .number)
+      pub number-is : hostDivideRefusal pot weights amounts ≡ r .answer .number
+      number-is =
+          refusal-even w
+          ∙ sym (laws.enough-room pot (numbers weights) (length amounts / 8) (rw length-numbers few))
+          ∙ ap (divideRefusal pot (numbers weights)) (sym (long ∙ is-room))
+          ∙ sym (made .number)
 
-    pub fits : r .answer .number ≡ 0 → 8 * (length weights / 8) ≤ length amounts
-    fits e =
-        let inside : length (numbers weights) ≤ length out = laws.divide-accepted pot (numbers weights) (length out) (sym (made .number) ∙ e) .1 in
-        let words : length (numbers weights) ≡ length weights / 8 = length-numbers weights in
-        omega arith
+      pub fits : r .answer .number ≡ 0 → 8 * (length weights / 8) ≤ length amounts
+      fits e =
+          let inside : length (numbers weights) ≤ length out = laws.divide-accepted pot (numbers weights) (length out) (sym (made .number) ∙ e) .1 in
+          let words : length (numbers weights) ≡ length weights / 8 = length-numbers weights in
+          omega arith
 
-    pub shares-first : r .answer .number ≡ 0 → (rest : List ℕ) → take (length weights / 8) (out′ ++ rest) ≡ shares pot (numbers weights)
-    shares-first e rest =
-        ap (λ l. take (length weights / 8) (l ++ rest)) (made .lent ∙ laws.memory-accepted pot (numbers weights) out (sym (made .number) ∙ e))
-        ∙ ap (take (length weights / 8)) (append-assoc (shares pot (numbers weights)) (drop (length (numbers weights)) out) rest)
-        ∙ take-at (shares pot (numbers weights)) (drop (length (numbers weights)) out ++ rest) (length weights / 8)
+      pub shares-first : r .answer .number ≡ 0 → (rest : List ℕ) → take (length weights / 8) (out′ ++ rest) ≡ shares pot (numbers weights)
+      shares-first e rest =
+          ap (λ l. take (length weights / 8) (l ++ rest)) (made .lent ∙ laws.memory-accepted pot (numbers weights) out (sym (made .number) ∙ e))
+          ∙ ap (take (length weights / 8)) (append-assoc (shares pot (numbers weights)) (drop (length (numbers weights)) out) rest)
+          ∙ take-at (shares pot (numbers weights)) (drop (length (numbers weights)) out ++ rest) (length weights / 8)
           (laws.length-shares pot (numbers weights) ∙ length-numbers weights)
 
-    pub divided : r .answer .number ≡ 0 → (after : List ℕ)
-      → after ≡ put (8 * length (shares pot (numbers weights))) (byteAt (shares pot (numbers weights))) amounts
-      → HostDivided pot weights amounts after 0
-    unfolding hostMemory
-    divided e after stored =
-        let accepted : hostDivideRefusal pot weights amounts ≡ 0 = number-is ∙ e in
-        let words : 8 * length (shares pot (numbers weights)) ≡ length weights =
-              ap (λ n. 8 * n) (laws.length-shares pot (numbers weights) ∙ length-numbers weights)
-              ∙ (let whole : 8 * (length weights / 8) ≡ length weights = omega (arith, w .these-whole) in whole) in
-        record {
-          answer = let z : 0 ≡ hostDivideRefusal pot weights amounts + 256 * 0 = omega arith in z;
-          lent =
-            stored
-            ∙ stored-bytes (shares pot (numbers weights)) amounts (omega (arith, fits e, w .these-whole))
-            ∙ ap (λ n. bytes (shares pot (numbers weights)) ++ drop n amounts) words
-            ∙ sym (ap (λ t. cond t (bytes (shares pot (numbers weights)) ++ drop (length weights) amounts) amounts) (eq-eqb (hostDivideRefusal pot weights amounts) 0 accepted))
-        }
+      pub divided : r .answer .number ≡ 0 → (after : List ℕ)
+          → after ≡ put (8 * length (shares pot (numbers weights))) (byteAt (shares pot (numbers weights))) amounts
+          → HostDivided pot weights amounts after 0
+      unfolding hostMemory
+      divided e after stored =
+          let accepted : hostDivideRefusal pot weights amounts ≡ 0 = number-is ∙ e in
+          let words : 8 * length (shares pot (numbers weights)) ≡ length weights =
+          ap (λ n. 8 * n) (laws.length-shares pot (numbers weights) ∙ length-numbers weights)
+          ∙ (let whole : 8 * (length weights / 8) ≡ length weights = omega (arith, w .these-whole) in whole) in
+          record {
+            answer = let z : 0 ≡ hostDivideRefusal pot weights amounts + 256 * 0 = omega arith in z;
+            lent =
+                stored
+                ∙ stored-bytes (shares pot (numbers weights)) amounts (omega (arith, fits e, w .these-whole))
+                ∙ ap (λ n. bytes (shares pot (numbers weights)) ++ drop n amounts) words
+                ∙ sym (ap (λ t. cond t (bytes (shares pot (numbers weights)) ++ drop (length weights) amounts) amounts) (eq-eqb (hostDivideRefusal pot weights amounts) 0 accepted));
+          }

@@ -21,9 +21,9 @@ use Rattle.host.specs.Stores.{numberAt, byteAt, storedTo}
 
 -- eight bytes as the code adds them up
 pub eight : (bs : List ℕ) (place b₀ b₁ b₂ b₃ b₄ b₅ b₆ b₇ : ℕ)
-  → b₀ ≡ at bs place → b₁ ≡ at bs (place + 1) → b₂ ≡ at bs (place + 2) → b₃ ≡ at bs (place + 3)
-  → b₄ ≡ at bs (place + 4) → b₅ ≡ at bs (place + 5) → b₆ ≡ at bs (place + 6) → b₇ ≡ at bs (place + 7)
-  → b₀ + b₁ * 256 + b₂ * 65536 + b₃ * 16777216 + b₄ * 4294967296 + b₅ * 1099511627776 + b₆ * 281474976710656 + b₇ * 72057594037927936
+    → b₀ ≡ at bs place → b₁ ≡ at bs (place + 1) → b₂ ≡ at bs (place + 2) → b₃ ≡ at bs (place + 3)
+    → b₄ ≡ at bs (place + 4) → b₅ ≡ at bs (place + 5) → b₆ ≡ at bs (place + 6) → b₇ ≡ at bs (place + 7)
+    → b₀ + b₁ * 256 + b₂ * 65536 + b₃ * 16777216 + b₄ * 4294967296 + b₅ * 1099511627776 + b₆ * 281474976710656 + b₇ * 72057594037927936
     ≡ numberFrom bs place
 unfolding numberFrom sumTo
 eight bs place b₀ b₁ b₂ b₃ b₄ b₅ b₆ b₇ e₀ e₁ e₂ e₃ e₄ e₅ e₆ e₇ = omega (arith, ap (at bs) (add-zero place))
@@ -34,7 +34,7 @@ first-byte bs place number = ap₂ (set bs) (sym (add-zero place)) (ap (λ n. n 
 
 -- storing a number's bytes behind what was stored goes on storing
 pub stored-on : (n : ℕ) (f : ℕ → ℕ) (l : List ℕ) (place number : ℕ) → ((k : ℕ) → k < n → f (place + k) ≡ byteOf number k)
-  → storedTo n (put place f l) place number ≡ put (place + n) f l
+    → storedTo n (put place f l) place number ≡ put (place + n) f l
 unfolding storedTo
 stored-on zero f l place number same = ap (λ p. put p f l) (sym (add-zero place))
 stored-on (suc n) f l place number same =
@@ -82,18 +82,18 @@ pub numbers-bytes : (ns : List ℕ) → ((i : ℕ) → i < length ns → at ns i
 unfolding numbers bytes numberFrom byteOf
 numbers-bytes ns small =
     let long : length (bytes ns) / 8 ≡ length ns =
-          ap (λ n. n / 8) (length-listed (8 * length ns) (byteAt ns)) ∙ (let e : 8 * length ns / 8 ≡ length ns = omega arith in e) in
+    ap (λ n. n / 8) (length-listed (8 * length ns) (byteAt ns)) ∙ (let e : 8 * length ns / 8 ≡ length ns = omega arith in e) in
     ext-getD 0 (numbers (bytes ns)) ns (length-listed (length (bytes ns) / 8) (numberAt (bytes ns)) ∙ long)
     (λ i h.
-      let within : i < length (bytes ns) / 8 = rw length-listed at h in
-      let b : i < length ns = subst (λ n. i < n) long within in
-      at-listed (length (bytes ns) / 8) (numberAt (bytes ns)) i within
-      ∙ sum-eq 8 (λ k. at (bytes ns) (8 * i + k) * 256 ^ k) (λ k. at ns i / 256 ^ k % 256 * 256 ^ k)
-        (λ k c.
-          let inside : 8 * i + k < 8 * length ns = omega arith in
-          ap (λ x. x * 256 ^ k) (at-listed (8 * length ns) (byteAt ns) (8 * i + k) inside ∙ byte-at ns i k c))
-      ∙ digits 8 (at ns i)
-      ∙ mod-eq-of-lt (small i b))
+    let within : i < length (bytes ns) / 8 = rw length-listed at h in
+    let b : i < length ns = subst (λ n. i < n) long within in
+    at-listed (length (bytes ns) / 8) (numberAt (bytes ns)) i within
+    ∙ sum-eq 8 (λ k. at (bytes ns) (8 * i + k) * 256 ^ k) (λ k. at ns i / 256 ^ k % 256 * 256 ^ k)
+    (λ k c.
+    let inside : 8 * i + k < 8 * length ns = omega arith in
+    ap (λ x. x * 256 ^ k) (at-listed (8 * length ns) (byteAt ns) (8 * i + k) inside ∙ byte-at ns i k c))
+    ∙ digits 8 (at ns i)
+    ∙ mod-eq-of-lt (small i b))
 
 -- digits below 256 are found again in the number that they make
 module _ (digit : ℕ → ℕ) where
@@ -115,23 +115,23 @@ module _ (digit : ℕ → ℕ) where
   found (suc n) h j b =
       ⊎-elim
       (λ (e : j ≡ n).
-        let less : made n < 256 ^ n = below n (λ k c. h k (le-step c)) in
-        let swap : made n + digit n * 256 ^ n ≡ digit n * 256 ^ n + made n = omega arith in
-        rw e (ap (λ m. m / 256 ^ n % 256) swap ∙ ap (λ m. m % 256) (digits-div (digit n) less) ∙ mod-eq-of-lt (h n (lt-suc-self n))))
+      let less : made n < 256 ^ n = below n (λ k c. h k (le-step c)) in
+      let swap : made n + digit n * 256 ^ n ≡ digit n * 256 ^ n + made n = omega arith in
+      rw e (ap (λ m. m / 256 ^ n % 256) swap ∙ ap (λ m. m % 256) (digits-div (digit n) less) ∙ mod-eq-of-lt (h n (lt-suc-self n))))
       (λ (c : j < n).
-        let power : 0 < 256 ^ j = one-le-pow j 256 (zero-lt-suc 255) in
-        let split : digit n * 256 ^ n ≡ digit n * 256 ^ (n - suc j) * 256 * 256 ^ j = shifted n j c in
-        ap (λ m. (made n + m) / 256 ^ j % 256) split
-        ∙ ap (λ m. m % 256) (add-mul-div-right (made n) (digit n * 256 ^ (n - suc j) * 256) power)
-        ∙ add-mul-mod-self-right (made n / 256 ^ j) (digit n * 256 ^ (n - suc j)) 256
-        ∙ found n (λ k d. h k (le-step d)) j c)
+      let power : 0 < 256 ^ j = one-le-pow j 256 (zero-lt-suc 255) in
+      let split : digit n * 256 ^ n ≡ digit n * 256 ^ (n - suc j) * 256 * 256 ^ j = shifted n j c in
+      ap (λ m. (made n + m) / 256 ^ j % 256) split
+      ∙ ap (λ m. m % 256) (add-mul-div-right (made n) (digit n * 256 ^ (n - suc j) * 256) power)
+      ∙ add-mul-mod-self-right (made n / 256 ^ j) (digit n * 256 ^ (n - suc j)) 256
+      ∙ found n (λ k d. h k (le-step d)) j c)
       (last-or-below n j b)
     where
       shifted : (n j : ℕ) → j < n → digit n * 256 ^ n ≡ digit n * 256 ^ (n - suc j) * 256 * 256 ^ j
       shifted n j c =
           let back : n ≡ n - suc j + suc j = omega arith in
           let power : 256 ^ n ≡ 256 ^ (n - suc j) * (256 ^ j * 256) =
-                ap (λ k. 256 ^ k) back ∙ pow-add 256 (n - suc j) (suc j) ∙ ap (λ m. 256 ^ (n - suc j) * m) (pow-suc 256 j) in
+          ap (λ k. 256 ^ k) back ∙ pow-add 256 (n - suc j) (suc j) ∙ ap (λ m. 256 ^ (n - suc j) * m) (pow-suc 256 j) in
           omega (arith, ap (λ m. digit n * m) power)
 
 -- bytes in whole words that are read as numbers and written again are the same
@@ -139,14 +139,14 @@ pub bytes-numbers : (bs : List ℕ) → length bs % 8 ≡ 0 → ((j : ℕ) → j
 unfolding numbers bytes numberFrom byteOf made
 bytes-numbers bs whole small =
     let long : 8 * length (numbers bs) ≡ length bs =
-          ap (λ n. 8 * n) (length-listed (length bs / 8) (numberAt bs)) ∙ (let e : 8 * (length bs / 8) ≡ length bs = omega arith in e) in
+    ap (λ n. 8 * n) (length-listed (length bs / 8) (numberAt bs)) ∙ (let e : 8 * (length bs / 8) ≡ length bs = omega arith in e) in
     ext-getD 0 (bytes (numbers bs)) bs (length-listed (8 * length (numbers bs)) (byteAt (numbers bs)) ∙ long)
     (λ j h.
-      let within : j < 8 * length (numbers bs) = rw length-listed at h in
-      let b : j < length bs = subst (λ n. j < n) long within in
-      let word : j / 8 < length bs / 8 = omega arith in
-      let place : 8 * (j / 8) + j % 8 ≡ j = omega arith in
-      at-listed (8 * length (numbers bs)) (byteAt (numbers bs)) j within
-      ∙ ap (λ n. byteOf n (j % 8)) (at-listed (length bs / 8) (numberAt bs) (j / 8) word)
-      ∙ found (λ k. at bs (8 * (j / 8) + k)) 8 (λ k c. small (8 * (j / 8) + k) (omega arith)) (j % 8) (omega arith)
-      ∙ ap (at bs) place)
+    let within : j < 8 * length (numbers bs) = rw length-listed at h in
+    let b : j < length bs = subst (λ n. j < n) long within in
+    let word : j / 8 < length bs / 8 = omega arith in
+    let place : 8 * (j / 8) + j % 8 ≡ j = omega arith in
+    at-listed (8 * length (numbers bs)) (byteAt (numbers bs)) j within
+    ∙ ap (λ n. byteOf n (j % 8)) (at-listed (length bs / 8) (numberAt bs) (j / 8) word)
+    ∙ found (λ k. at bs (8 * (j / 8) + k)) 8 (λ k c. small (8 * (j / 8) + k) (omega arith)) (j % 8) (omega arith)
+    ∙ ap (at bs) place)

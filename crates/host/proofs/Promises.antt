@@ -26,5 +26,5 @@ answer-in-parts = reading.answer-in-parts
 
 -- where a division is accepted, the first bytes, as many as the weights have, read as the shares of the pot by the weights
 pub shares-in-bytes : (pot : ℕ) (weights amounts : List ℕ) → hostDivideRefusal pot weights amounts ≡ 0
-  → numbers (take (length weights) (hostMemory pot weights amounts)) ≡ shares pot (numbers weights)
+    → numbers (take (length weights) (hostMemory pot weights amounts)) ≡ shares pot (numbers weights)
 shares-in-bytes = reading.shares-in-bytes

@@ -29,19 +29,19 @@ unfolding bytes
 length-bytes ns = length-listed (8 * length ns) (byteAt ns)
 
 pub shares-in-bytes : (pot : ℕ) (weights amounts : List ℕ) → hostDivideRefusal pot weights amounts ≡ 0
-  → numbers (take (length weights) (hostMemory pot weights amounts)) ≡ shares pot (numbers weights)
+    → numbers (take (length weights) (hostMemory pot weights amounts)) ≡ shares pot (numbers weights)
 unfolding hostMemory hostDivideRefusal
 shares-in-bytes pot weights amounts e =
     let looked = look-none (isUneven (length weights) (length amounts)) 1 (divideRefusal pot (numbers weights) (length amounts / 8)) (λ q. omega arith) e in
     let good = laws.divide-accepted pot (numbers weights) (length amounts / 8) (looked .1) in
     let whole : length weights % 8 ≡ 0 = whole-words weights amounts (looked .0) .these-whole in
     let long : length (bytes (shares pot (numbers weights))) ≡ length weights =
-          length-bytes (shares pot (numbers weights))
-          ∙ ap (λ n. 8 * n) (laws.length-shares pot (numbers weights) ∙ length-numbers weights)
-          ∙ (let all : 8 * (length weights / 8) ≡ length weights = omega arith in all) in
+    length-bytes (shares pot (numbers weights))
+    ∙ ap (λ n. 8 * n) (laws.length-shares pot (numbers weights) ∙ length-numbers weights)
+    ∙ (let all : 8 * (length weights / 8) ≡ length weights = omega arith in all) in
     ap (λ m. numbers (take (length weights) m))
     (ap (λ t. cond t (bytes (shares pot (numbers weights)) ++ drop (length weights) amounts) amounts)
-      (eq-eqb (hostDivideRefusal pot weights amounts) 0 e))
+    (eq-eqb (hostDivideRefusal pot weights amounts) 0 e))
     ∙ ap numbers (take-at (bytes (shares pot (numbers weights))) (drop (length weights) amounts) (length weights) long)
     ∙ numbers-bytes (shares pot (numbers weights))
-      (λ i b. let small = laws.share-within pot (numbers weights) (good .4) i in omega (arith, small, good .2))
+    (λ i b. let small = laws.share-within pot (numbers weights) (good .4) i in omega (arith, small, good .2))

@@ -6,9 +6,9 @@ use Prim.Native.Nat.{ℕ}
 use Rattle.host.specs.Calls.{HostDivided, hostVerdict}
 
 pub noketualo-divide-unique : (pot : ℕ) (weights before after after′ : List ℕ) (r r′ : ℕ)
-  → HostDivided pot weights before after r → HostDivided pot weights before after′ r′ → (r ≡ r′) × (after ≡ after′)
+    → HostDivided pot weights before after r → HostDivided pot weights before after′ r′ → (r ≡ r′) × (after ≡ after′)
 noketualo-divide-unique pot weights before after after′ r r′ d d′ = (d .answer ∙ sym (d′ .answer), d .lent ∙ sym (d′ .lent))
 
 pub noketualo-check-unique : (pot : ℕ) (weights amounts : List ℕ) (r r′ : ℕ)
-  → r ≡ hostVerdict pot weights amounts → r′ ≡ hostVerdict pot weights amounts → r ≡ r′
+    → r ≡ hostVerdict pot weights amounts → r′ ≡ hostVerdict pot weights amounts → r ≡ r′
 noketualo-check-unique pot weights amounts r r′ e e′ = e ∙ sym e′

@@ -1,9 +1,9 @@
 // The phone app's calls: the division and the check on a pot and byte slices, eight bytes to a number, low byte first. The
 // answer is one word: the refusal's number in its low byte, 0 where accepted, and the call's value in the bits above. A
 // refusal writes no byte. The calls keep nothing between them.
-use answer::{ACCEPTED, COUNT};
+use answer::ACCEPTED;
+use answer::COUNT;
 use division::Verdict;
-
 ghost use mathlib.Core.Path.{_≡_};
 ghost use Prim.Native.Nat.{_/_, _≤_};
 ghost use lib.ListN.{length};
@@ -16,10 +16,17 @@ mod words;
 
 // The check's value, 1 for yes, where it stands in an answer.
 const YES: u64 = 256;
+
 const NO: u64 = 0;
 
 // Divides in lent working words: the weights' numbers go to the first, the shares to the second, and from there to `amounts`.
-fn divide_words(pot: u64, weights: &[u8], amounts: &mut [u8], numbers: &mut [u64], shares: &mut [u64]) -> u64
+fn divide_words(
+    pot: u64,
+    weights: &[u8],
+    amounts: &mut [u8],
+    numbers: &mut [u64],
+    shares: &mut [u64],
+) -> u64
     requires { ⌜ WholeWords (now weights) (now amounts) ⌝ }
     requires { ⌜ (length (now weights) / wordBytes ≤ mostWeights) × (length (now numbers) ≡ mostWeights) × (length (now shares) ≡ mostWeights) ⌝ }
     ensures { λ r. ⌜ HostDivided pot (now (weights .entry)) (now (amounts .entry)) (now (amounts .exit)) r ⌝ }
@@ -38,7 +45,13 @@ fn divide_words(pot: u64, weights: &[u8], amounts: &mut [u8], numbers: &mut [u64
 }
 
 // Checks in lent working words: the weights' numbers go to the first, the amounts' to the second.
-fn check_words(pot: u64, weights: &[u8], amounts: &[u8], numbers: &mut [u64], handed: &mut [u64]) -> u64
+fn check_words(
+    pot: u64,
+    weights: &[u8],
+    amounts: &[u8],
+    numbers: &mut [u64],
+    handed: &mut [u64],
+) -> u64
     requires { ⌜ WholeWords (now weights) (now amounts) × (length (now amounts) ≡ length (now weights)) ⌝ }
     requires { ⌜ (length (now weights) / wordBytes ≤ mostWeights) × (length (now numbers) ≡ mostWeights) × (length (now handed) ≡ mostWeights) ⌝ }
     ensures { λ r. ⌜ r ≡ hostVerdict pot (now (weights .entry)) (now (amounts .entry)) ⌝ }

@@ -9,6 +9,7 @@ ghost use Rattle.host.specs.Stores.{stored, numberAt, byteAt};
 
 // Bytes to a number, and the most numbers that a call takes.
 pub const WORD: usize = 8;
+
 pub const MOST: usize = 64;
 
 // Whether a byte length is no multiple of eight, of two slices.

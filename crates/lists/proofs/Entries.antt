@@ -25,8 +25,8 @@ at-listed (suc n) f i h =
     ⊎-elim
     (λ (e : i ≡ n). rw e (getD-at (listed n f) (f n) [] 0 n (length-listed n f)))
     (λ (b : i < n).
-      let within : i < length (listed n f) = rw length-listed b in
-      List·getD-append (listed n f) (f n ∷ []) 0 i within ∙ at-listed n f i b)
+    let within : i < length (listed n f) = rw length-listed b in
+    List·getD-append (listed n f) (f n ∷ []) 0 i within ∙ at-listed n f i b)
     (last-or-below n i h)
 
 pub total-listed : (n : ℕ) (f : ℕ → ℕ) → total (listed n f) ≡ sumTo n f

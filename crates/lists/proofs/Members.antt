@@ -25,26 +25,26 @@ place-below zero member i h m = absurd (not-suc-le-zero h)
 place-below (suc n) member i h m =
     ⊎-elim
     (λ (e : i ≡ n).
-      let one : bit (member n) ≡ 1 = ap bit (ap member (sym e) ∙ m) in
-      let same : count i member ≡ count n member = ap (λ k. count k member) e in
-      omega arith)
+    let one : bit (member n) ≡ 1 = ap bit (ap member (sym e) ∙ m) in
+    let same : count i member ≡ count n member = ap (λ k. count k member) e in
+    omega arith)
     (λ (b : i < n). omega (arith, place-below n member i b m))
     (last-or-below n i h)
 
 pub place-order : (member : ℕ → Bool) (j i : ℕ) → member j ≡ true → member i ≡ true
-  → ltb (count j member) (count i member) ≡ ltb j i
+    → ltb (count j member) (count i member) ≡ ltb j i
 place-order member j i mj mi =
     ⊎-elim
     (λ (l : j < i). lt-ltb _ _ (place-below i member j l mj) ∙ sym (lt-ltb j i l))
     (λ (g : i ≤ j).
-      ⊎-elim
-      (λ (l : i < j).
-        let below : count i member < count j member = place-below j member i l mi in
-        le-ltb (count j member) (count i member) (omega arith) ∙ sym (le-ltb j i g))
-      (λ (h : j ≤ i).
-        let same : j ≡ i = omega arith in
-        rw same (le-ltb (count i member) (count i member) (omega arith) ∙ sym (le-ltb i i (omega arith))))
-      (lt-or-le i j))
+    ⊎-elim
+    (λ (l : i < j).
+    let below : count i member < count j member = place-below j member i l mi in
+    le-ltb (count j member) (count i member) (omega arith) ∙ sym (le-ltb j i g))
+    (λ (h : j ≤ i).
+    let same : j ≡ i = omega arith in
+    rw same (le-ltb (count i member) (count i member) (omega arith) ∙ sym (le-ltb i i (omega arith))))
+    (lt-or-le i j))
     (lt-or-le j i)
 
 pub length-kept : (n : ℕ) (member : ℕ → Bool) (f : ℕ → ℕ) → length (kept n member f) ≡ count n member
@@ -63,11 +63,11 @@ at-kept zero member f i h m = absurd (not-suc-le-zero h)
 at-kept (suc n) member f i h m =
     ⊎-elim
     (λ (e : i ≡ n).
-      let last : member n ≡ true = ap member (sym e) ∙ m in
-      rw (e, last) (getD-at (kept n member f) (f n) [] 0 (count n member) (length-kept n member f)))
+    let last : member n ≡ true = ap member (sym e) ∙ m in
+    rw (e, last) (getD-at (kept n member f) (f n) [] 0 (count n member) (length-kept n member f)))
     (λ (b : i < n).
-      let within : count i member < length (kept n member f) = rw length-kept (place-below n member i b m) in
-      List·getD-append (kept n member f) (cond (member n) (f n ∷ []) []) 0 (count i member) within ∙ at-kept n member f i b m)
+    let within : count i member < length (kept n member f) = rw length-kept (place-below n member i b m) in
+    List·getD-append (kept n member f) (cond (member n) (f n ∷ []) []) 0 (count i member) within ∙ at-kept n member f i b m)
     (last-or-below n i h)
 
 -- a sum over the members' places is a sum over the members

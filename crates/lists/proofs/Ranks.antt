@@ -43,15 +43,15 @@ module _ (before : ℕ → ℕ → Bool) (o : Ordered before) where
       same-test (before i j) (ltb (rank n before i) (rank n before j))
       (λ e. lt-ltb _ _ (rank-less n i j h e))
       (λ e. le-ltb (rank n before i) (rank n before j)
-        (count-implied n (λ k. before k j) (λ k. before k i) (λ k l b. o .transitive k j i b (o .connected i j d e))))
+      (count-implied n (λ k. before k j) (λ k. before k i) (λ k l b. o .transitive k j i b (o .connected i j d e))))
 
   opposite : (n i j : ℕ) → i < n → i ≢ j → before j i ≡ not (ltb (rank n before i) (rank n before j))
   opposite n i j h d =
       ⊎-elim
       (λ (e : before i j ≡ true).
-        same-test (before j i) (not (ltb (rank n before i) (rank n before j)))
-        (λ b. absurd (true≢false (sym (o .transitive i j i e b) ∙ o .irreflexive i)))
-        (λ b. rw (← before-rank n i j h d, e)))
+      same-test (before j i) (not (ltb (rank n before i) (rank n before j)))
+      (λ b. absurd (true≢false (sym (o .transitive i j i e b) ∙ o .irreflexive i)))
+      (λ b. rw (← before-rank n i j h d, e)))
       (λ (e : before i j ≡ false). o .connected i j d e ∙ (rw (← before-rank n i j h d, e)))
       (true-or-false (before i j))
 
@@ -77,10 +77,10 @@ moved-high r R k h =
     ⊎-elim
     (λ (l : r < R). rw (lt-ltb r R l) (lt-ltb (r + 0) (suc k) (omega arith) ∙ sym (lt-ltb r k (omega arith))))
     (λ (l : R ≤ r). rw (le-ltb r R l)
-      (⊎-elim
-      (λ (b : r < k). lt-ltb (r + 1) (suc k) (omega arith) ∙ sym (lt-ltb r k b))
-      (λ (b : k ≤ r). le-ltb (r + 1) (suc k) (omega arith) ∙ sym (le-ltb r k b))
-      (lt-or-le r k)))
+    (⊎-elim
+    (λ (b : r < k). lt-ltb (r + 1) (suc k) (omega arith) ∙ sym (lt-ltb r k b))
+    (λ (b : k ≤ r). le-ltb (r + 1) (suc k) (omega arith) ∙ sym (le-ltb r k b))
+    (lt-or-le r k)))
     (lt-or-le r R)
 
 module _ (before : ℕ → ℕ → Bool) (o : Ordered before) where
@@ -95,21 +95,21 @@ module _ (before : ℕ → ℕ → Bool) (o : Ordered before) where
   ranks-below (suc n) (suc k) =
       ⊎-elim
       (λ (low : k < R).
-        let others : count n (λ i. ltb (rank (suc n) before i) (suc k)) ≡ min (suc k) n =
-              sum-eq n (λ i. bit (ltb (rank (suc n) before i) (suc k))) (λ i. bit (ltb (rank n before i) (suc k)))
-              (λ i h. ap bit (ap (λ r. ltb r (suc k)) (rank-more before o n i h) ∙ moved-low (rank n before i) R (suc k) low))
-              ∙ ranks-below n (suc k) in
-        let last : bit (ltb (rank (suc n) before n) (suc k)) ≡ 0 =
-              ap bit (ap (λ r. ltb r (suc k)) (rank-last before o n) ∙ le-ltb R (suc k) low) in
-        omega (arith, count-le n (λ j. before j n)))
+      let others : count n (λ i. ltb (rank (suc n) before i) (suc k)) ≡ min (suc k) n =
+      sum-eq n (λ i. bit (ltb (rank (suc n) before i) (suc k))) (λ i. bit (ltb (rank n before i) (suc k)))
+      (λ i h. ap bit (ap (λ r. ltb r (suc k)) (rank-more before o n i h) ∙ moved-low (rank n before i) R (suc k) low))
+      ∙ ranks-below n (suc k) in
+      let last : bit (ltb (rank (suc n) before n) (suc k)) ≡ 0 =
+      ap bit (ap (λ r. ltb r (suc k)) (rank-last before o n) ∙ le-ltb R (suc k) low) in
+      omega (arith, count-le n (λ j. before j n)))
       (λ (high : R ≤ k).
-        let others : count n (λ i. ltb (rank (suc n) before i) (suc k)) ≡ min k n =
-              sum-eq n (λ i. bit (ltb (rank (suc n) before i) (suc k))) (λ i. bit (ltb (rank n before i) k))
-              (λ i h. ap bit (ap (λ r. ltb r (suc k)) (rank-more before o n i h) ∙ moved-high (rank n before i) R k high))
-              ∙ ranks-below n k in
-        let last : bit (ltb (rank (suc n) before n) (suc k)) ≡ 1 =
-              ap bit (ap (λ r. ltb r (suc k)) (rank-last before o n) ∙ lt-ltb R (suc k) (omega arith)) in
-        omega arith)
+      let others : count n (λ i. ltb (rank (suc n) before i) (suc k)) ≡ min k n =
+      sum-eq n (λ i. bit (ltb (rank (suc n) before i) (suc k))) (λ i. bit (ltb (rank n before i) k))
+      (λ i h. ap bit (ap (λ r. ltb r (suc k)) (rank-more before o n i h) ∙ moved-high (rank n before i) R k high))
+      ∙ ranks-below n k in
+      let last : bit (ltb (rank (suc n) before n) (suc k)) ≡ 1 =
+      ap bit (ap (λ r. ltb r (suc k)) (rank-last before o n) ∙ lt-ltb R (suc k) (omega arith)) in
+      omega arith)
       (lt-or-le k R)
     where
       R : ℕ
@@ -150,29 +150,29 @@ largest-first-ordered f =
     record {
       irreflexive = λ i. higher-later f i i refl (le-refl i);
       transitive = λ i j k a b.
-        ⊎-elim
-        (λ (x : f j < f i).
+          ⊎-elim
+          (λ (x : f j < f i).
           ⊎-elim
           (λ (y : f k < f j). larger-first f i k (omega arith))
           (λ (y : (f k ≡ f j) × (j < k)). larger-first f i k (omega arith))
           (comes-first f j k b))
-        (λ (x : (f j ≡ f i) × (i < j)).
+          (λ (x : (f j ≡ f i) × (i < j)).
           ⊎-elim
           (λ (y : f k < f j). larger-first f i k (omega arith))
           (λ (y : (f k ≡ f j) × (j < k)). lower-first f i k (omega arith) (omega arith))
           (comes-first f j k b))
-        (comes-first f i j a);
+          (comes-first f i j a);
       connected = λ i j d e.
-        ⊎-elim
-        (λ (x : f i < f j). larger-first f j i x)
-        (λ (x : f j ≤ f i).
+          ⊎-elim
+          (λ (x : f i < f j). larger-first f j i x)
+          (λ (x : f j ≤ f i).
           ⊎-elim
           (λ (y : f j < f i). absurd (true≢false (sym (larger-first f i j y) ∙ e)))
           (λ (y : f i ≤ f j).
-            ⊎-elim
-            (λ (z : j < i). lower-first f j i (omega arith) z)
-            (λ (z : i ≤ j). absurd (true≢false (sym (lower-first f i j (omega arith) (omega (arith, d))) ∙ e)))
-            (lt-or-le j i))
+          ⊎-elim
+          (λ (z : j < i). lower-first f j i (omega arith) z)
+          (λ (z : i ≤ j). absurd (true≢false (sym (lower-first f i j (omega arith) (omega (arith, d))) ∙ e)))
+          (lt-or-le j i))
           (lt-or-le (f j) (f i)))
-        (lt-or-le (f i) (f j))
+          (lt-or-le (f i) (f j));
     }

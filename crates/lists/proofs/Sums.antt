@@ -76,8 +76,8 @@ sum-lt zero f g e k h l = absurd (not-suc-le-zero h)
 sum-lt (suc n) f g e k h l =
     ⊎-elim
     (λ (q : k ≡ n).
-      let last : f n < g n = subst (λ m. f m < g m) q l in
-      omega (arith, sum-le n f g (λ i b. e i (le-step b))))
+    let last : f n < g n = subst (λ m. f m < g m) q l in
+    omega (arith, sum-le n f g (λ i b. e i (le-step b))))
     (λ (b : k < n). omega (arith, sum-lt n f g (λ i b. e i (le-step b)) k b l, e n (lt-suc-self n)))
     (last-or-below n k h)
 

@@ -33,32 +33,32 @@ number-of r number place e = ap (λ (a : Answer). a .number) e ∙ refuse-number
 
 module _ {pot : ℕ} {uses : List ℕ} {sides : Sides} (cut : Split pot uses sides) (weights : List ℕ) (place : ℕ) (answer : Answer) where
   pub split-refused : (column : List ℕ) → sides .number ≢ 0 → answer ≡ refuse (sides .number) divisions place
-    → OneZone pot uses weights place column column (record { answer = answer; nonzone = 0 })
+      → OneZone pot uses weights place column column (record { answer = answer; nonzone = 0 })
   split-refused column bad e =
       record {
         answer =
-          e
-          ∙ ap (λ n. refuse n divisions place) (cut .number)
-          ∙ sym (then-first (refuse (sizeRefusal pot (total uses)) divisions place) _
+            e
+            ∙ ap (λ n. refuse n divisions place) (cut .number)
+            ∙ sym (then-first (refuse (sizeRefusal pot (total uses)) divisions place) _
             (λ o. bad (cut .number ∙ sym (refuse-number (sizeRefusal pot (total uses)) divisions place) ∙ o)));
         added = λ o. absurd (bad (sym (number-of answer (sides .number) place e) ∙ o));
-        nonzone-side = λ o. absurd (bad (sym (number-of answer (sides .number) place e) ∙ o))
+        nonzone-side = λ o. absurd (bad (sym (number-of answer (sides .number) place e) ∙ o));
       }
 
   pub split-shared : (before after : List ℕ) (number : ℕ) → sides .number ≡ 0 → Added (sides .zone) weights before after number
-    → answer ≡ refuse number divisions (place + 1)
-    → OneZone pot uses weights place before after (record { answer = answer; nonzone = sides .nonzone })
+      → answer ≡ refuse number divisions (place + 1)
+      → OneZone pot uses weights place before after (record { answer = answer; nonzone = sides .nonzone })
   split-shared before after number fine a e =
       record {
         answer =
-          e
-          ∙ ap (λ n. refuse n divisions (place + 1)) (a .number ∙ ap (λ side. sizeRefusal side (total weights)) (cut .zone-side fine))
-          ∙ sym (then-second (refuse (sizeRefusal pot (total uses)) divisions place) _
+            e
+            ∙ ap (λ n. refuse n divisions (place + 1)) (a .number ∙ ap (λ side. sizeRefusal side (total weights)) (cut .zone-side fine))
+            ∙ sym (then-second (refuse (sizeRefusal pot (total uses)) divisions place) _
             (refuse-number (sizeRefusal pot (total uses)) divisions place ∙ sym (cut .number) ∙ fine));
         added = λ o.
-          subst₂ (λ side n. Added side weights before after n) (cut .zone-side fine)
-          (sym (number-of answer number (place + 1) e) ∙ o) a;
-        nonzone-side = λ o. cut .nonzone-side fine
+            subst₂ (λ side n. Added side weights before after n) (cut .zone-side fine)
+            (sym (number-of answer number (place + 1) e) ∙ o) a;
+        nonzone-side = λ o. cut .nonzone-side fine;
       }
 
 -- the uses that the code adds up are the service's
@@ -71,12 +71,12 @@ abbrev pub Zone : Service → ℕ → ℕ → List ℕ → List ℕ → ZoneChar
 Zone s place z before after r = OneZone (s .pot z) (uses s) (weightsIn (zoneSides s) z) (splitPlace place z) before after r
 
 pub zone-by-uses : (s : Service) (place z : ℕ) (used before after : List ℕ) (r : ZoneCharged) → used ≡ uses s
-  → OneZone (s .pot z) used (weightsIn (zoneSides s) z) (splitPlace place z) before after r → Zone s place z before after r
+    → OneZone (s .pot z) used (weightsIn (zoneSides s) z) (splitPlace place z) before after r → Zone s place z before after r
 zone-by-uses s place z used before after r e o =
     subst (λ u. OneZone (s .pot z) u (weightsIn (zoneSides s) z) (splitPlace place z) before after r) e o
 
 zone-answer : (s : Service) (place z : ℕ) (before after : List ℕ) (r : ZoneCharged) → Zone s place z before after r
-  → r .answer ≡ zoneTurn s place z
+    → r .answer ≡ zoneTurn s place z
 unfolding zoneTurn splitRefusal shareRefusal refusal zoneSide
 zone-answer s place z before after r o = o .answer
 
@@ -88,9 +88,10 @@ charged-none s column start =
 pub fine-turn : (s : Service) (place z : ℕ) → zoneTurn s place z .number ≡ 0 → (splitRefusal s z ≡ 0) × (shareRefusal s z ≡ 0)
 unfolding zoneTurn
 fine-turn s place z e =
-    let parts = then-none (refuse (splitRefusal s z) divisions (splitPlace place z)) (refuse (shareRefusal s z) divisions (sharePlace place z)) e in
-    (sym (refuse-number (splitRefusal s z) divisions (splitPlace place z)) ∙ parts .0
-    , sym (refuse-number (shareRefusal s z) divisions (sharePlace place z)) ∙ parts .1)
+    let parts = then-none (refuse (splitRefusal s z) divisions (splitPlace place z)) (refuse (shareRefusal s z) divisions (sharePlace place z)) e in (
+      sym (refuse-number (splitRefusal s z) divisions (splitPlace place z)) ∙ parts .0,
+      sym (refuse-number (shareRefusal s z) divisions (sharePlace place z)) ∙ parts .1,
+    )
 
 pub turn-fine : (s : Service) (place z : ℕ) → splitRefusal s z ≡ 0 → shareRefusal s z ≡ 0 → zoneTurn s place z ≡ accepted
 unfolding zoneTurn
@@ -123,11 +124,11 @@ module _ {s : Service} {z nonzone : ℕ} {column : List ℕ} (so-far : Charged s
         record {
           summed = summed-more (so-far .summed) after 0 (one .added fine) refl;
           splits = λ y b.
-            ⊎-elim
-            (λ (q : y ≡ z). ap (splitRefusal s) q ∙ turn .0)
-            (λ (l : y < z). so-far .splits y l)
-            (last-or-below z y (rw add-one at b));
-          nonzone-sides = ap₂ _+_ (so-far .nonzone-sides) (one .nonzone-side fine) ∙ sym (sum-suc z (nonzoneSide s))
+              ⊎-elim
+              (λ (q : y ≡ z). ap (splitRefusal s) q ∙ turn .0)
+              (λ (l : y < z). so-far .splits y l)
+              (last-or-below z y (rw add-one at b));
+          nonzone-sides = ap₂ _+_ (so-far .nonzone-sides) (one .nonzone-side fine) ∙ sym (sum-suc z (nonzoneSide s));
         }
 
     pub nonzone-next : r .answer .number ≡ 0 → r .nonzone ≤ potLimit
@@ -142,18 +143,18 @@ module _ {s : Service} {z nonzone : ℕ} {column : List ℕ} (so-far : Charged s
         let turn : r .answer ≡ zoneTurn s place z = zone-answer s place z column after r one in
         record {
           answer =
-            turn
-            ∙ sym (turns-stop (zoneTurn s place) (s .zones) z b (fine-before place) (λ e. bad (ap (λ (a : Answer). a .number) turn ∙ e)));
-          charged = λ e. absurd (bad e)
+              turn
+              ∙ sym (turns-stop (zoneTurn s place) (s .zones) z b (fine-before place) (λ e. bad (ap (λ (a : Answer). a .number) turn ∙ e)));
+          charged = λ e. absurd (bad e);
         }
 
   pub charged-all : (place : ℕ) (answer : Answer) → z ≡ s .zones → answer ≡ refuse 0 divisions place
-    → AllZones s place column (record { answer = answer; nonzone = nonzone })
+      → AllZones s place column (record { answer = answer; nonzone = nonzone })
   charged-all place answer e o =
       record {
         answer =
-          o
-          ∙ refuse-none 0 divisions place refl
-          ∙ sym (turns-none (zoneTurn s place) (s .zones) (λ y b. fine-before place y (rw e b)));
-        charged = λ n. subst (λ k. Charged s k nonzone column) e so-far
+            o
+            ∙ refuse-none 0 divisions place refl
+            ∙ sym (turns-none (zoneTurn s place) (s .zones) (λ y b. fine-before place y (rw e b)));
+        charged = λ n. subst (λ k. Charged s k nonzone column) e so-far;
       }

@@ -36,8 +36,8 @@ module _ (s : Service) (z : ℕ) (fine : splitRefusal s z ≡ 0) where
   unfolding zoneSide nonzoneSide uses sumTo
   sides-add-up =
       let both : sumTo 2 (at (shares (s .pot z) (uses s))) ≡ s .pot z =
-            ap (λ n. sumTo n (at (shares (s .pot z) (uses s)))) (sym (length-shares (s .pot z) (uses s)))
-            ∙ shares-add-up (s .pot z) (uses s) base in
+      ap (λ n. sumTo n (at (shares (s .pot z) (uses s)))) (sym (length-shares (s .pot z) (uses s)))
+      ∙ shares-add-up (s .pot z) (uses s) base in
       omega arith
 
   -- no use, no side
@@ -58,9 +58,9 @@ module _ (s : Service) (z : ℕ) (fine : splitRefusal s z ≡ 0) where
   unfolding splitRefusal weightsIn among zoneUse
   zone-weights-fit =
       let of-zone : total (weightsIn (zoneSides s) z) ≤ zoneUse s =
-            le-trans (le-of-eq (total-listed (s .accounts) _))
-            (sum-le (s .accounts) (λ a. when (isMember (zoneSides s) z a) (s .zonePart a)) (s .zonePart)
-              (λ a b. when-le (isMember (zoneSides s) z a) (s .zonePart a))) in
+      le-trans (le-of-eq (total-listed (s .accounts) _))
+      (sum-le (s .accounts) (λ a. when (isMember (zoneSides s) z a) (s .zonePart a)) (s .zonePart)
+      (λ a b. when-le (isMember (zoneSides s) z a) (s .zonePart a))) in
       omega (arith, uses-add-up s, size-accepted (s .pot z) (total (uses s)) fine .1)
 
   -- after a split that is fine, a share is fine or BASE
@@ -95,11 +95,11 @@ module _ (s : Service) (fine : nonzoneRefusal s ≡ 0) where
   nonzone-to-parts =
       sum-eq (s .accounts) (λ a. when (ltb 0 (s .nonzonePart a)) (nonzoneShare s a)) (nonzoneShare s)
       (λ a b.
-        ⊎-elim
-        (λ (some : ltb 0 (s .nonzonePart a) ≡ true). when-true (ltb 0 (s .nonzonePart a)) (nonzoneShare s a) some)
-        (λ (no : ltb 0 (s .nonzonePart a) ≡ false).
-          let at-most : s .nonzonePart a ≤ 0 = ltb-false 0 (s .nonzonePart a) no in
-          let none : nonzoneShare s a ≡ 0 = nonzone-none a b (omega arith) in
-          when-zero (ltb 0 (s .nonzonePart a)) (nonzoneShare s a) none ∙ sym none)
-        (true-or-false (ltb 0 (s .nonzonePart a))))
+      ⊎-elim
+      (λ (some : ltb 0 (s .nonzonePart a) ≡ true). when-true (ltb 0 (s .nonzonePart a)) (nonzoneShare s a) some)
+      (λ (no : ltb 0 (s .nonzonePart a) ≡ false).
+      let at-most : s .nonzonePart a ≤ 0 = ltb-false 0 (s .nonzonePart a) no in
+      let none : nonzoneShare s a ≡ 0 = nonzone-none a b (omega arith) in
+      when-zero (ltb 0 (s .nonzonePart a)) (nonzoneShare s a) none ∙ sym none)
+      (true-or-false (ltb 0 (s .nonzonePart a))))
       ∙ nonzone-add-up

@@ -19,7 +19,16 @@ use Rattle.groups.specs.Groups.{alone, amounts}
 use Rattle.groups.proofs.Members.{share-alone}
 use Rattle.groups.proofs.Laws.{pots-divided, members-have-all, others-none, weightless-none-at-all, from-own-group, groupless-none, amount-alone}
 use Rattle.service.specs.Service.{
-  Service, nonzoneUse, zoneSide, nonzoneSide, zoneSides, zoneShare, nonzonePot, nonzoneParts, nonzoneShare, serviceCharge
+  Service,
+  nonzoneUse,
+  zoneSide,
+  nonzoneSide,
+  zoneSides,
+  zoneShare,
+  nonzonePot,
+  nonzoneParts,
+  nonzoneShare,
+  serviceCharge,
 }
 use Rattle.service.specs.Turn.{splitRefusal, shareRefusal, nonzoneRefusal, serviceInTurn, Accepted, RefusedAt}
 use Rattle.service.proofs.Laws as laws
@@ -44,19 +53,19 @@ charges-are-pots s all =
 
 -- a zone side is fully charged to that zone's accounts ..
 pub zone-side-to-its-accounts : (s : Service) → Accepted s → (z : ℕ) → z < s .zones
-  → sumTo (s .accounts) (λ a. when (eqb (s .zoneOf a) (s .zoneNumber z)) (zoneShare s z a)) ≡ zoneSide s z
+    → sumTo (s .accounts) (λ a. when (eqb (s .zoneOf a) (s .zoneNumber z)) (zoneShare s z a)) ≡ zoneSide s z
 unfolding zoneShare shareRefusal
 zone-side-to-its-accounts s all z b = members-have-all (zoneSides s) z (all .share-fine z b)
 
 -- .. and nobody else has a share of it
 pub zone-side-to-nobody-else : (s : Service) → Accepted s → (z a : ℕ) → z < s .zones → a < s .accounts
-  → s .zoneOf a ≢ s .zoneNumber z → zoneShare s z a ≡ 0
+    → s .zoneOf a ≢ s .zoneNumber z → zoneShare s z a ≡ 0
 unfolding zoneShare shareRefusal
 zone-side-to-nobody-else s all z a b l d = others-none (zoneSides s) z (all .share-fine z b) a l (ne-eqb (s .zoneOf a) (s .zoneNumber z) d)
 
 -- the non-zone sides are fully charged to the accounts that have a non-zone part ..
 pub nonzone-sides-to-nonzone-parts : (s : Service) → Accepted s
-  → sumTo (s .accounts) (λ a. when (ltb 0 (s .nonzonePart a)) (nonzoneShare s a)) ≡ sumTo (s .zones) (nonzoneSide s)
+    → sumTo (s .accounts) (λ a. when (ltb 0 (s .nonzonePart a)) (nonzoneShare s a)) ≡ sumTo (s .zones) (nonzoneSide s)
 unfolding nonzonePot
 nonzone-sides-to-nonzone-parts s all = laws.nonzone-to-parts s (all .nonzone-fine)
 
@@ -66,14 +75,14 @@ nonzone-sides-to-nobody-else s all = laws.nonzone-none s (all .nonzone-fine)
 
 -- an account that uses nothing is charged nothing
 pub idle-account-is-free : (s : Service) → Accepted s → (a : ℕ) → a < s .accounts
-  → s .zonePart a ≡ 0 → s .nonzonePart a ≡ 0 → serviceCharge s a ≡ 0
+    → s .zonePart a ≡ 0 → s .nonzonePart a ≡ 0 → serviceCharge s a ≡ 0
 unfolding serviceCharge shareRefusal
 idle-account-is-free s all a b e f =
     ap₂ _+_ (weightless-none-at-all (zoneSides s) (all .share-fine) a b e) (laws.nonzone-none s (all .nonzone-fine) a b f)
 
 -- an account pays its share of its own zone's side and of the non-zone pot, where no two zones have one number ..
 pub charge-in-a-zone : (s : Service) → Accepted s → (a z : ℕ) → a < s .accounts → z < s .zones → s .zoneOf a ≡ s .zoneNumber z
-  → ((y : ℕ) → y < s .zones → y ≢ z → s .zoneNumber y ≢ s .zoneNumber z) → serviceCharge s a ≡ zoneShare s z a + nonzoneShare s a
+    → ((y : ℕ) → y < s .zones → y ≢ z → s .zoneNumber y ≢ s .zoneNumber z) → serviceCharge s a ≡ zoneShare s z a + nonzoneShare s a
 unfolding serviceCharge zoneShare shareRefusal
 charge-in-a-zone s all a z b l e distinct =
     ap (λ n. n + nonzoneShare s a)
@@ -81,7 +90,7 @@ charge-in-a-zone s all a z b l e distinct =
 
 -- .. and an account of no zone pays its share of the non-zone pot
 pub charge-at-the-border : (s : Service) → Accepted s → (a : ℕ) → a < s .accounts
-  → ((z : ℕ) → z < s .zones → s .zoneOf a ≢ s .zoneNumber z) → serviceCharge s a ≡ nonzoneShare s a
+    → ((z : ℕ) → z < s .zones → s .zoneOf a ≢ s .zoneNumber z) → serviceCharge s a ≡ nonzoneShare s a
 unfolding serviceCharge shareRefusal
 charge-at-the-border s all a b none =
     ap (λ n. n + nonzoneShare s a)
@@ -91,18 +100,18 @@ charge-at-the-border s all a b none =
 -- the paper's words, "divided among that zone's accounts by use": an account's share is what it has where the zone's accounts are
 -- a list of their own, at its place among them ..
 pub zone-share-among-its-accounts : (s : Service) → Accepted s → (z a : ℕ) → z < s .zones → a < s .accounts → s .zoneOf a ≡ s .zoneNumber z
-  → zoneShare s z a
+    → zoneShare s z a
     ≡ at (shares (zoneSide s z) (kept (s .accounts) (λ b. eqb (s .zoneOf b) (s .zoneNumber z)) (s .zonePart)))
-      (count a (λ b. eqb (s .zoneOf b) (s .zoneNumber z)))
+    (count a (λ b. eqb (s .zoneOf b) (s .zoneNumber z)))
 unfolding zoneShare shareRefusal alone
 zone-share-among-its-accounts s all z a b l e =
     amount-alone (zoneSides s) z (all .share-fine z b) a l (eq-eqb (s .zoneOf a) (s .zoneNumber z) e)
 
 -- .. and likewise the accounts that have a non-zone part, "zone 0's accounts"
 pub nonzone-share-among-its-accounts : (s : Service) → Accepted s → (a : ℕ) → a < s .accounts → 0 < s .nonzonePart a
-  → nonzoneShare s a
+    → nonzoneShare s a
     ≡ at (shares (nonzonePot s) (kept (s .accounts) (λ b. ltb 0 (s .nonzonePart b)) (s .nonzonePart)))
-      (count a (λ b. ltb 0 (s .nonzonePart b)))
+    (count a (λ b. ltb 0 (s .nonzonePart b)))
 unfolding nonzoneShare nonzoneRefusal nonzoneParts
 nonzone-share-among-its-accounts s all a b some =
     share-alone (s .accounts) (s .nonzonePart) (λ c. ltb 0 (s .nonzonePart c))

@@ -17,7 +17,18 @@ use Rattle.groups.specs.Turns.{turns}
 use Rattle.groups.proofs.Turns.{turns-eq}
 use Rattle.groups.proofs.Same as groups
 use Rattle.service.specs.Service.{
-  Service, zoneUse, nonzoneUse, uses, zoneSide, nonzoneSide, zoneSides, nonzonePot, nonzoneParts, nonzoneShare, serviceCharge, serviceOf
+  Service,
+  zoneUse,
+  nonzoneUse,
+  uses,
+  zoneSide,
+  nonzoneSide,
+  zoneSides,
+  nonzonePot,
+  nonzoneParts,
+  nonzoneShare,
+  serviceCharge,
+  serviceOf,
 }
 use Rattle.service.specs.Turn.{splitRefusal, shareRefusal, nonzoneRefusal, splitPlace, sharePlace, zoneTurn, serviceInTurn, Served}
 
@@ -47,7 +58,7 @@ module _ {s t : Service} (e : Same s t) where
         same-weight = e .same-zone-part;
         same-groups = e .same-zones;
         same-number = e .same-number;
-        same-pot = λ z b. ap₂ (λ pot l. at (shares pot l) 0) (e .same-pot z b) same-uses
+        same-pot = λ z b. ap₂ (λ pot l. at (shares pot l) 0) (e .same-pot z b) same-uses;
       }
 
   same-nonzone-pot : nonzonePot s ≡ nonzonePot t
@@ -80,16 +91,16 @@ module _ {s t : Service} (e : Same s t) where
       ap₂ _then_
       (turns-eq (zoneTurn s place) (zoneTurn t place) (s .zones) (same-zone-turn place) ∙ ap (turns (zoneTurn t place)) (e .same-zones))
       (ap₂ (λ n k. refuse n divisions (place + 2 * k))
-        (ap₂ (λ pot l. sizeRefusal pot (total l)) same-nonzone-pot same-nonzone-parts) (e .same-zones))
+      (ap₂ (λ pot l. sizeRefusal pot (total l)) same-nonzone-pot same-nonzone-parts) (e .same-zones))
 
   pub same-served : (place : ℕ) (before after : List ℕ) (r : Answer) → Served s place before after r → Served t place before after r
   same-served place before after r v = groups.same-written v (e .same-accounts) (λ a b. same-charge a) (same-turn place)
 
 -- the lists that a caller fills from a service
 pub filled : (s : Service)
-  → Same
+    → Same
     (serviceOf (listed (s .zones) (s .pot)) (listed (s .zones) (s .zoneNumber)) (listed (s .accounts) (s .zonePart))
-      (listed (s .accounts) (s .nonzonePart)) (listed (s .accounts) (s .zoneOf)))
+    (listed (s .accounts) (s .nonzonePart)) (listed (s .accounts) (s .zoneOf)))
     s
 filled s =
     record {
@@ -99,5 +110,5 @@ filled s =
       same-nonzone-part = λ a b. at-listed (s .accounts) (s .nonzonePart) a (rw length-listed at b);
       same-zones = length-listed (s .zones) (s .zoneNumber);
       same-number = λ z b. at-listed (s .zones) (s .zoneNumber) z (rw length-listed at b);
-      same-pot = λ z b. at-listed (s .zones) (s .pot) z (rw length-listed at b)
+      same-pot = λ z b. at-listed (s .zones) (s .pot) z (rw length-listed at b);
     }

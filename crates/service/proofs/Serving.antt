@@ -38,10 +38,10 @@ module _ {s : Service} {place : ℕ} {sums : List ℕ} {r : ZoneCharged} (zones 
   zone-stops bad =
       record {
         answers =
-          zones .answer
-          ∙ sym (then-first (turns (zoneTurn s place) (s .zones)) _ (λ e. bad (ap (λ (a : Answer). a .number) (zones .answer) ∙ e)));
+            zones .answer
+            ∙ sym (then-first (turns (zoneTurn s place) (s .zones)) _ (λ e. bad (ap (λ (a : Answer). a .number) (zones .answer) ∙ e)));
         long = λ o. absurd (bad o);
-        values = λ o. absurd (bad o)
+        values = λ o. absurd (bad o);
       }
 
   module _ (fine : r .answer .number ≡ 0) where
@@ -50,45 +50,45 @@ module _ {s : Service} {place : ℕ} {sums : List ℕ} {r : ZoneCharged} (zones 
 
     module _ (parts : List ℕ) (p : parts ≡ nonzoneParts s) (after : List ℕ) (refusal : ℕ) (a : Added (r .nonzone) parts sums after refusal)
       where
-      as-many : length parts ≡ s .accounts
-      unfolding nonzoneParts
-      as-many = ap length p ∙ length-listed (s .accounts) (s .nonzonePart)
+        as-many : length parts ≡ s .accounts
+        unfolding nonzoneParts
+        as-many = ap length p ∙ length-listed (s .accounts) (s .nonzonePart)
 
-      pot-is : r .nonzone ≡ nonzonePot s
-      unfolding nonzonePot
-      pot-is = zones .charged fine .nonzone-sides
+        pot-is : r .nonzone ≡ nonzonePot s
+        unfolding nonzonePot
+        pot-is = zones .charged fine .nonzone-sides
 
-      number-is : refusal ≡ nonzoneRefusal s
-      unfolding nonzoneRefusal
-      number-is = a .number ∙ ap₂ (λ q l. sizeRefusal q (total l)) pot-is p
+        number-is : refusal ≡ nonzoneRefusal s
+        unfolding nonzoneRefusal
+        number-is = a .number ∙ ap₂ (λ q l. sizeRefusal q (total l)) pot-is p
 
-      added : refusal ≡ 0 → after ≡ put (s .accounts) (λ i. at sums i + at (shares (r .nonzone) parts) i) sums
-      added none =
-          a .lent
-          ∙ (rw (eq-eqb refusal 0 none))
-          ∙ ap (λ n. put n (λ i. at sums i + at (shares (r .nonzone) parts) i) sums) as-many
+        added : refusal ≡ 0 → after ≡ put (s .accounts) (λ i. at sums i + at (shares (r .nonzone) parts) i) sums
+        added none =
+            a .lent
+            ∙ (rw (eq-eqb refusal 0 none))
+            ∙ ap (λ n. put n (λ i. at sums i + at (shares (r .nonzone) parts) i) sums) as-many
 
-      charged : refusal ≡ 0 → (i : ℕ) → i < s .accounts → at after i ≡ serviceCharge s i
-      unfolding serviceCharge nonzoneShare amounts
-      charged none i b =
-          ap (λ l. at l i) (added none)
-          ∙ at-put (s .accounts) _ sums (zones .charged fine .summed .long) i b
-          ∙ ap₂ _+_ (zones .charged fine .summed .sums i b) (ap₂ (λ q l. at (shares q l) i) pot-is p)
+        charged : refusal ≡ 0 → (i : ℕ) → i < s .accounts → at after i ≡ serviceCharge s i
+        unfolding serviceCharge nonzoneShare amounts
+        charged none i b =
+            ap (λ l. at l i) (added none)
+            ∙ at-put (s .accounts) _ sums (zones .charged fine .summed .long) i b
+            ∙ ap₂ _+_ (zones .charged fine .summed .sums i b) (ap₂ (λ q l. at (shares q l) i) pot-is p)
 
-      -- the non-zone pot's division has the answer
-      pub nonzone-ends : (answer : Answer) → answer ≡ refuse refusal divisions (nonzonePlace place s)
-        → AllCharged s place after answer
-      unfolding serviceInTurn
-      nonzone-ends answer e =
-          let number : answer .number ≡ refusal =
-                ap (λ (q : Answer). q .number) e ∙ refuse-number refusal divisions (nonzonePlace place s) in
-          record {
-            answers =
-              e
-              ∙ ap (λ n. refuse n divisions (nonzonePlace place s)) number-is
-              ∙ sym (then-second (turns (zoneTurn s place) (s .zones)) _ (ap (λ (q : Answer). q .number) (sym (zones .answer)) ∙ fine));
-            long = λ o.
-              le-trans (zones .charged fine .summed .long)
-              (le-of-eq (sym (ap length (added (sym number ∙ o)) ∙ length-put (s .accounts) _ sums)));
-            values = λ o. charged (sym number ∙ o)
-          }
+        -- the non-zone pot's division has the answer
+        pub nonzone-ends : (answer : Answer) → answer ≡ refuse refusal divisions (nonzonePlace place s)
+            → AllCharged s place after answer
+        unfolding serviceInTurn
+        nonzone-ends answer e =
+            let number : answer .number ≡ refusal =
+            ap (λ (q : Answer). q .number) e ∙ refuse-number refusal divisions (nonzonePlace place s) in
+            record {
+              answers =
+                  e
+                  ∙ ap (λ n. refuse n divisions (nonzonePlace place s)) number-is
+                  ∙ sym (then-second (turns (zoneTurn s place) (s .zones)) _ (ap (λ (q : Answer). q .number) (sym (zones .answer)) ∙ fine));
+              long = λ o.
+                  le-trans (zones .charged fine .summed .long)
+                  (le-of-eq (sym (ap length (added (sym number ∙ o)) ∙ length-put (s .accounts) _ sums)));
+              values = λ o. charged (sym number ∙ o);
+            }

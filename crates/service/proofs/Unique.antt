@@ -9,5 +9,5 @@ use Rattle.service.specs.Service.{Service, serviceCharge}
 use Rattle.service.specs.Turn.{serviceInTurn, Served}
 
 pub charge-unique : (s : Service) (place : ℕ) (before after after′ : List ℕ) (r r′ : Answer)
-  → Served s place before after r → Served s place before after′ r′ → (r ≡ r′) × (after ≡ after′)
+    → Served s place before after r → Served s place before after′ r′ → (r ≡ r′) × (after ≡ after′)
 charge-unique s place = written-unique (s .accounts) (serviceCharge s) (serviceInTurn s place)

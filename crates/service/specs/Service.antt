@@ -48,7 +48,7 @@ zoneSides s =
       weight = s .zonePart;
       groups = s .zones;
       groupNumber = s .zoneNumber;
-      pot = zoneSide s
+      pot = zoneSide s;
     }
 
 -- what account a pays of the zone side of zone z
@@ -81,5 +81,5 @@ serviceOf pots numbers zoneparts nonzoneparts zones =
       nonzonePart = at nonzoneparts;
       zones = length numbers;
       zoneNumber = at numbers;
-      pot = at pots
+      pot = at pots;
     }

@@ -34,9 +34,9 @@ pub record Split (pot : ℕ) (uses : List ℕ) (r : Sides) : Type 0 where
 -- one zone: its pot in two by two uses, its zone side by its accounts' weights, added to the column
 pub record OneZone (pot : ℕ) (uses weights : List ℕ) (place : ℕ) (before after : List ℕ) (r : ZoneCharged) : Type 0 where
   pub answer :
-    r .answer
-    ≡ (refuse (sizeRefusal pot (total uses)) divisions place
-    then refuse (sizeRefusal (at (shares pot uses) 0) (total weights)) divisions (place + 1))
+      r .answer
+      ≡ (refuse (sizeRefusal pot (total uses)) divisions place
+      then refuse (sizeRefusal (at (shares pot uses) 0) (total weights)) divisions (place + 1))
   pub added : r .answer .number ≡ 0 → Added (at (shares pot uses) 0) weights before after 0
   pub nonzone-side : r .answer .number ≡ 0 → r .nonzone ≡ at (shares pot uses) 1
 

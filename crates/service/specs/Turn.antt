@@ -67,8 +67,8 @@ pub record FineBefore (s : Service) (z : ℕ) : Type 0 where
 -- pot's division, which is BIG.
 pub data RefusedAt (s : Service) (place : ℕ) (r : Answer) : Type 0 where
   at-split : (z : ℕ) → z < s .zones → FineBefore s z → splitRefusal s z ≢ 0
-    → r ≡ record { number = splitRefusal s z; table = divisions; row = splitPlace place z } → RefusedAt s place r
+      → r ≡ record { number = splitRefusal s z; table = divisions; row = splitPlace place z } → RefusedAt s place r
   at-share : (z : ℕ) → z < s .zones → FineBefore s z → splitRefusal s z ≡ 0 → shareRefusal s z ≡ BASE
-    → r ≡ record { number = BASE; table = divisions; row = sharePlace place z } → RefusedAt s place r
+      → r ≡ record { number = BASE; table = divisions; row = sharePlace place z } → RefusedAt s place r
   at-nonzone : FineBefore s (s .zones) → nonzoneRefusal s ≡ BIG
-    → r ≡ record { number = BIG; table = divisions; row = nonzonePlace place s } → RefusedAt s place r
+      → r ≡ record { number = BIG; table = divisions; row = nonzonePlace place s } → RefusedAt s place r

@@ -2,9 +2,10 @@
 // side is shared among the zone's accounts by their zone parts, and the non-zone sides of all zones are one pot, shared among all
 // accounts by their non-zone parts. It knows no month: whoever calls it fills the parts. `specs/` says what each account is
 // charged, `proofs/Promises.antt` what follows from it.
-use answer::{ACCEPTED, Answer, DIVISIONS};
+use answer::ACCEPTED;
+use answer::Answer;
+use answer::DIVISIONS;
 use groups::columns;
-
 ghost use mathlib.Core.Path.{_≡_};
 ghost use mathlib.Core.List.{[], _∷_};
 ghost use Prim.Native.Nat.{_+_, _*_, _≤_, _<_, _^_};
@@ -110,7 +111,16 @@ fn charge_zones(
     let mut sides = 0;
     let mut z = 0;
     while z < numbers.len() {
-        let charged = charge_zone(pots[z], zone, nonzone, zoneparts, zones, numbers[z], column, place + 2 * z as u64);
+        let charged = charge_zone(
+            pots[z],
+            zone,
+            nonzone,
+            zoneparts,
+            zones,
+            numbers[z],
+            column,
+            place + 2 * z as u64,
+        );
         let number = charged.answer.number;
         if number != ACCEPTED {
             return charged;
@@ -168,7 +178,15 @@ pub fn charge(
 {
     let count = zoneparts.len();
     let mut charges = [0u64; groups::MOST_MEMBERS];
-    let answer = charge_all(pots, numbers, zoneparts, nonzoneparts, zones, &mut charges, place);
+    let answer = charge_all(
+        pots,
+        numbers,
+        zoneparts,
+        nonzoneparts,
+        zones,
+        &mut charges,
+        place,
+    );
     let number = answer.number;
     if number != ACCEPTED {
         return answer;

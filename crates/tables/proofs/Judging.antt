@@ -19,8 +19,19 @@ use Rattle.tables.specs.Rows.{outside, rowOf}
 use Rattle.tables.specs.Judgement.{counted, roomFor, headJudged, rowsJudged, inTurn, judged}
 use Rattle.tables.specs.Good.{GoodRow, GoodTable, Counted, Roomy, GoodFrame, GoodMonth}
 use Rattle.tables.specs.Refused.{
-  refusal, FirstBroken, by-range, by-order, by-link, by-pair, Refused, by-count, by-charges, by-credits, by-month, by-nonzone,
-  by-row
+  refusal,
+  FirstBroken,
+  by-range,
+  by-order,
+  by-link,
+  by-pair,
+  Refused,
+  by-count,
+  by-charges,
+  by-credits,
+  by-month,
+  by-nonzone,
+  by-row,
 }
 use Rattle.tables.proofs.Tests.{reworded, both, at-least, equal}
 use Rattle.tables.proofs.Keeping.{within}
@@ -54,10 +65,10 @@ module _ (month days nonzone : ℕ) (t : Tables) (lentCharges lentCredits : ℕ)
   counts =
       in-turn-stage (Counted t) Why (λ table. counted table (length (wordsOf t table)))
       (λ table before.
-        look-stage COUNT (number table) 0 (omega arith)
-        (reworded (λ p. record { whole = p .0; few = p .1 }) (λ r. (r .whole, r .few))
-        (both (equal (length (wordsOf t table) % width table) 0) (at-least (rows table (wordsOf t table)) (limit table))))
-        (by-count table refl before))
+      look-stage COUNT (number table) 0 (omega arith)
+      (reworded (λ p. record { whole = p .0; few = p .1 }) (λ r. (r .whole, r .few))
+      (both (equal (length (wordsOf t table) % width table) 0) (at-least (rows table (wordsOf t table)) (limit table))))
+      (by-count table refl before))
 
   charges-room : ((table : Table) → Counted t table) → Stage (rows Accounts (t .accounts) * chargeWidth ≤ lentCharges) Why (roomFor charges (rows Accounts (t .accounts) * chargeWidth) lentCharges)
   unfolding roomFor
@@ -82,31 +93,32 @@ module _ (month days nonzone : ℕ) (t : Tables) (lentCharges lentCredits : ℕ)
           passed-on (λ w. record { counted = all; roomy = roomy; month-known = e; nonzone-in-range = w })
           (look-stage RANGE head 0 (omega arith) (within 0 mostRate nonzone)
           (λ out.
-            let high : ¬ (nonzone ≤ mostRate) = λ l. out (record { least = omega arith; most = l }) in
-            by-nonzone refl all roomy e (omega arith)))
+          let high : ¬ (nonzone ≤ mostRate) = λ l. out (record { least = omega arith; most = l }) in
+          by-nonzone refl all roomy e (omega arith)))
 
   table-rows : GoodFrame month days nonzone t lentCharges lentCredits → (table : Table) → ((earlier : Table) → number earlier < number table → GoodTable days t earlier) → Stage (GoodTable days t table) Why (rowsJudged days t table)
   unfolding rowsJudged
   table-rows good table before =
       ⊎-elim
       (λ (z : a .number ≡ 0).
-        let all : (i : ℕ) → i < n → rowOf days t table i ≡ 0 = first-all (number table) (rowOf days t table) n z in
-        passed (first-none (number table) (rowOf days t table) n all) (λ i h. row-good days t table i (all i h)))
+      let all : (i : ℕ) → i < n → rowOf days t table i ≡ 0 = first-all (number table) (rowOf days t table) n z in
+      passed (first-none (number table) (rowOf days t table) n all) (λ i h. row-good days t table i (all i h)))
       (λ (d : a .number ≢ 0).
-        let at : RefusedAt (number table) (rowOf days t table) n a = first-refused (number table) (rowOf days t table) n d in
-        stopped d
-        (by-row table (a .row) (a .number) (ap (λ k. refusal (a .number) k (a .row)) (at .at-table))
-        (record {
-          frame = good;
-          earlier-tables = before;
-          is-row = at .at-row;
-          earlier-rows = λ j h. row-good days t table j (at .earlier-fine j h);
-          broken = row-broken days t table (a .row) (a .number) (at .its-number) d
-        })))
+      let at : RefusedAt (number table) (rowOf days t table) n a = first-refused (number table) (rowOf days t table) n d in
+      stopped d
+      (by-row table (a .row) (a .number) (ap (λ k. refusal (a .number) k (a .row)) (at .at-table))
+      (record {
+        frame = good;
+        earlier-tables = before;
+        is-row = at .at-row;
+        earlier-rows = λ j h. row-good days t table j (at .earlier-fine j h);
+        broken = row-broken days t table (a .row) (a .number) (at .its-number) d;
+      })))
       (zero-or-not (a .number))
     where
       n : ℕ
       n = rows table (wordsOf t table)
+
       a : Answer
       a = first (number table) (rowOf days t table) n
 
@@ -120,8 +132,8 @@ module _ (month days nonzone : ℕ) (t : Tables) (lentCharges lentCredits : ℕ)
       (λ p. passed-on (λ roomy. (p .0, roomy)) (credits-room (p .0) (p .1))))
       (λ p. frame (p .0) (p .1)))
       (λ good.
-        passed-on (λ all. record { frame = good; tables = all })
-        (in-turn-stage (GoodTable days t) Why (rowsJudged days t) (table-rows good)))
+      passed-on (λ all. record { frame = good; tables = all })
+      (in-turn-stage (GoodTable days t) Why (rowsJudged days t) (table-rows good)))
 
   pub judged-good : judged month days nonzone t lentCharges lentCredits .number ≡ 0 → GoodMonth month days nonzone t lentCharges lentCredits
   judged-good e =

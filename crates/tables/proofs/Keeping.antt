@@ -36,11 +36,11 @@ reserve service x = go (eqb service reactive) refl
     go : (t : Bool) → eqb service reactive ≡ t → Tests (Within 0 mostReserve x × (service ≡ reactive → x ≡ 0)) (outside 0 (cond t 0 mostReserve) x)
     go true e = record {
       holds = λ f. let w : Within 0 0 x = within 0 0 x .holds f in (omega arith, λ q. omega arith);
-      kept = λ p. let z : x ≡ 0 = p .1 (eqb-true service reactive e) in within 0 0 x .kept (omega arith)
+      kept = λ p. let z : x ≡ 0 = p .1 (eqb-true service reactive e) in within 0 0 x .kept (omega arith);
     }
     go false e = record {
       holds = λ f. (within 0 mostReserve x .holds f, λ q. absurd (eqb-false service reactive e q));
-      kept = λ p. within 0 mostReserve x .kept (p .0)
+      kept = λ p. within 0 mostReserve x .kept (p .0);
     }
 
 -- ORDER: a row stands above the one before, where there is one
@@ -50,7 +50,7 @@ above-before {A} above test i =
     (λ (z : i ≡ 0). record { holds = λ e j q. absurd (omega arith); kept = λ r. sym (first-row above i z) })
     (λ (d : i ≢ 0). record {
       holds = λ e j q. subst (λ k. A k i) (omega arith) (test (i - 1) i .holds (later-row above i d ∙ e));
-      kept = λ r. sym (later-row above i d) ∙ test (i - 1) i .kept (r (i - 1) (omega arith))
+      kept = λ r. sym (later-row above i d) ∙ test (i - 1) i .kept (r (i - 1) (omega arith));
     })
     (zero-or-not i)
 
@@ -63,15 +63,15 @@ pair-above a b c d =
     ⊎-elim
     (λ (l : a < b). record { holds = λ e. inl l; kept = λ r. rw (lt-ltb a b l) })
     (λ (l : b ≤ a).
-      ⊎-elim
-      (λ (q : a ≡ b).
-        reworded (λ m. inr (q, m)) (λ r. ⊎-elim (λ m. absurd (omega arith)) (λ p. p .1) r)
-        (rw (le-ltb a b l, eq-eqb a b q) (less c d)))
-      (λ (q : a ≢ b). record {
-        holds = λ e. absurd (true≢false (sym (rw (le-ltb a b l, ne-eqb a b q)) ∙ e));
-        kept = λ r. absurd (⊎-elim (λ m. omega arith) (λ p. q (p .0)) r)
-      })
-      (equal-or-not a b))
+    ⊎-elim
+    (λ (q : a ≡ b).
+    reworded (λ m. inr (q, m)) (λ r. ⊎-elim (λ m. absurd (omega arith)) (λ p. p .1) r)
+    (rw (le-ltb a b l, eq-eqb a b q) (less c d)))
+    (λ (q : a ≢ b). record {
+      holds = λ e. absurd (true≢false (sym (rw (le-ltb a b l, ne-eqb a b q)) ∙ e));
+      kept = λ r. absurd (⊎-elim (λ m. omega arith) (λ p. q (p .0)) r);
+    })
+    (equal-or-not a b))
     (lt-or-le a b)
 
 pub load-above : (loads : List ℕ) (j i : ℕ) → Tests (LoadAbove loads j i) (not (byAccountAndDay loads j i))
@@ -82,10 +82,10 @@ pub known : (table : Table) (words : List ℕ) (x : ℕ) → Tests (Known table 
 unfolding unknown
 known table words x = record {
   holds = λ e.
-    let found : (j : ℕ) × (j < rows table words) × (names table words x j ≡ true) =
-          any-found (rows table words) (names table words x) (not-false (any (rows table words) (names table words x)) e) in
-    (found .0, found .1, eqb-true (entry table 0 words (found .0)) x (found .2));
-  kept = λ k. sym (row-found table words x (k .0) (k .1) (k .2))
+      let found : (j : ℕ) × (j < rows table words) × (names table words x j ≡ true) =
+      any-found (rows table words) (names table words x) (not-false (any (rows table words) (names table words x)) e) in
+      (found .0, found .1, eqb-true (entry table 0 words (found .0)) x (found .2));
+  kept = λ k. sym (row-found table words x (k .0) (k .1) (k .2));
 }
 
 -- "account zone 0 excepted"
@@ -108,7 +108,7 @@ pub own-pair : (accounts : List ℕ) (i : ℕ) → Tests (OwnPair accounts i) (t
 unfolding taken
 own-pair accounts i = record {
   holds = λ e j h. test j .holds (none-at i (λ k. samePair accounts k i) e j h);
-  kept = λ r. none-from i (λ k. samePair accounts k i) (λ j h. test j .kept (r j h))
+  kept = λ r. none-from i (λ k. samePair accounts k i) (λ j h. test j .kept (r j h));
 }
   where
     test : (j : ℕ) → Tests (accountCustomer accounts j ≡ accountCustomer accounts i → accountZone accounts j ≢ accountZone accounts i) (samePair accounts j i)

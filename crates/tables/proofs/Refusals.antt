@@ -28,14 +28,14 @@ first-at table f zero i h fine bad = absurd (not-suc-le-zero h)
 first-at table f (suc n) i h fine bad =
     ⊎-elim
     (λ (q : i ≡ n).
-      then-second (first table f n) (refuse (f n) table n)
-      (ap (λ (a : Answer). a .number) (first-none table f n (λ j b. fine j (rw q b))))
-      ∙ ap (λ k. refuse (f k) table k) (sym q))
+    then-second (first table f n) (refuse (f n) table n)
+    (ap (λ (a : Answer). a .number) (first-none table f n (λ j b. fine j (rw q b))))
+    ∙ ap (λ k. refuse (f k) table k) (sym q))
     (λ (b : i < n).
-      let before : first table f n ≡ refuse (f i) table i = first-at table f n i b fine bad in
-      then-first (first table f n) (refuse (f n) table n)
-      (λ z. bad (sym (refuse-number (f i) table i) ∙ ap (λ (a : Answer). a .number) (sym before) ∙ z))
-      ∙ before)
+    let before : first table f n ≡ refuse (f i) table i = first-at table f n i b fine bad in
+    then-first (first table f n) (refuse (f n) table n)
+    (λ z. bad (sym (refuse-number (f i) table i) ∙ ap (λ (a : Answer). a .number) (sym before) ∙ z))
+    ∙ before)
     (last-or-below n i h)
 
 pub first-stop : (table : ℕ) (f : ℕ → ℕ) (n i : ℕ) → i < n → first table f i ≡ accepted → f i ≢ 0 → first table f n ≡ refuse (f i) table i

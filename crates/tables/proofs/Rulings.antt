@@ -11,18 +11,60 @@ use Rattle.tables.specs.declared.Table.{Table}
 use Rattle.tables.specs.declared.Table.the-variants.{Zones, Owners, Units, Accounts, Loads, Reservations}
 use Rattle.tables.specs.Shape.{Tables}
 use Rattle.tables.specs.Columns.{
-  zoneNumber, zoneRate, ownerNumber, ownerZone, ownerRequirement, unitNumber, unitOwner, unitZone, unitService, unitRequirement,
-  unitReserve, accountNumber, accountCustomer, accountZone, loadAccount, loadDay, loadContribution, reservationAccount,
-  reservationReserved, reservationCurtailed
+  zoneNumber,
+  zoneRate,
+  ownerNumber,
+  ownerZone,
+  ownerRequirement,
+  unitNumber,
+  unitOwner,
+  unitZone,
+  unitService,
+  unitRequirement,
+  unitReserve,
+  accountNumber,
+  accountCustomer,
+  accountZone,
+  loadAccount,
+  loadDay,
+  loadContribution,
+  reservationAccount,
+  reservationReserved,
+  reservationCurtailed,
 }
 use Rattle.tables.specs.Limits.{lastZone, lastOwner, lastUnit, lastAccount, lastCustomer, blackStart, reactive}
 use Rattle.tables.specs.Rows.{
-  rowNumber, notAbove, byFirst, byAccountAndDay, zoneOutside, zoneRow, ownerOutside, ownerRow, unitOutside, unitRow,
-  accountOutside, accountRow, loadOutside, loadRow, reservationOutside, reservationRow, rowOf
+  rowNumber,
+  notAbove,
+  byFirst,
+  byAccountAndDay,
+  zoneOutside,
+  zoneRow,
+  ownerOutside,
+  ownerRow,
+  unitOutside,
+  unitRow,
+  accountOutside,
+  accountRow,
+  loadOutside,
+  loadRow,
+  reservationOutside,
+  reservationRow,
+  rowOf,
 }
 use Rattle.tables.specs.Good.{
-  ZoneInRange, OwnerInRange, UnitInRange, AccountInRange, LoadInRange, ReservationInRange, InRange, FirstAbove, Ascending, Linked, Unpaired,
-  GoodRow
+  ZoneInRange,
+  OwnerInRange,
+  UnitInRange,
+  AccountInRange,
+  LoadInRange,
+  ReservationInRange,
+  InRange,
+  FirstAbove,
+  Ascending,
+  Linked,
+  Unpaired,
+  GoodRow,
 }
 use Rattle.tables.specs.Refused.{FirstBroken, by-range, by-order, by-link, by-pair}
 use Rattle.tables.proofs.Tests.{Tests, breaks, reworded, no-rule, both}
@@ -53,7 +95,7 @@ unit-range units i =
       service = p .0 .0 .1;
       requirement = p .0 .1;
       reserve = p .1 .0;
-      none-for-reactive = p .1 .1
+      none-for-reactive = p .1 .1;
     })
     (λ r. (((((r .unit, r .owner), r .zone), r .service), r .requirement), (r .reserve, r .none-for-reactive)))
     (both

@@ -37,7 +37,7 @@ refuse-stage {G} {B} n table row good bad =
     ⊎-elim
     (λ (z : n ≡ 0). passed (refuse-none n table row z) (good z))
     (λ (d : n ≢ 0).
-      stopped (λ z. d (sym (refuse-number n table row) ∙ z)) (subst B (sym (refuse-some n table row d)) (bad d)))
+    stopped (λ z. d (sym (refuse-number n table row) ∙ z)) (subst B (sym (refuse-some n table row d)) (bad d)))
     (zero-or-not n)
 
 -- one look

@@ -27,7 +27,7 @@ no-rule = record { holds = λ e. tt; kept = λ r. refl }
 pub both : {P Q : Type 0} {s t : Bool} → Tests P s → Tests Q t → Tests (P × Q) (s || t)
 both {s = s} {t = t} p q = record {
   holds = λ e. (p .holds (or-left s t e), q .holds (or-right s t e));
-  kept = λ r. or-false s t (p .kept (r .0)) (q .kept (r .1))
+  kept = λ r. or-false s t (p .kept (r .0)) (q .kept (r .1));
 }
 
 -- a number is at least another

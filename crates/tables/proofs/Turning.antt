@@ -28,7 +28,7 @@ then-assoc a b c =
     ⊎-elim
     (λ (z : a .number ≡ 0). ap (λ k. k then c) (then-second a b z) ∙ sym (then-second a (b then c) z))
     (λ (d : a .number ≢ 0).
-      ap (λ k. k then c) (then-first a b d) ∙ then-first a c d ∙ sym (then-first a (b then c) d))
+    ap (λ k. k then c) (then-first a b d) ∙ then-first a c d ∙ sym (then-first a (b then c) d))
     (zero-or-not (a .number))
 
 in-turn-behind : (before : Answer) (f : Table → Answer) → (before then f Zones then f Owners then f Units then f Accounts then f Loads then f Reservations) ≡ (before then inTurn f)
@@ -50,8 +50,8 @@ places lent width count h =
     ⊎-elim
     (λ (l : lent / width < count). lt-ltb (lent / width) count l ∙ sym (lt-ltb lent (count * width) (div-lt-iff-lt-mul h .0 l)))
     (λ (l : count ≤ lent / width).
-      le-ltb (lent / width) count l
-      ∙ sym (le-ltb lent (count * width) (fewer l (lt-or-le lent (count * width)))))
+    le-ltb (lent / width) count l
+    ∙ sym (le-ltb lent (count * width) (fewer l (lt-or-le lent (count * width)))))
     (lt-or-le (lent / width) count)
   where
     fewer : count ≤ lent / width → (lent < count * width) ⊎ (count * width ≤ lent) → count * width ≤ lent

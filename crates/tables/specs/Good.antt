@@ -12,9 +12,27 @@ use Rattle.tables.specs.declared.Table.{Table}
 use Rattle.tables.specs.declared.Table.the-variants.{Zones, Owners, Units, Accounts, Loads, Reservations}
 use Rattle.tables.specs.Shape.{width, limit, chargeWidth, creditWidth, rows, Tables, wordsOf}
 use Rattle.tables.specs.Columns.{
-  entry, zoneNumber, zoneRate, ownerNumber, ownerZone, ownerRequirement, unitNumber, unitOwner, unitZone, unitService, unitRequirement,
-  unitReserve, accountNumber, accountCustomer, accountZone, loadAccount, loadDay, loadContribution, reservationAccount,
-  reservationReserved, reservationCurtailed
+  entry,
+  zoneNumber,
+  zoneRate,
+  ownerNumber,
+  ownerZone,
+  ownerRequirement,
+  unitNumber,
+  unitOwner,
+  unitZone,
+  unitService,
+  unitRequirement,
+  unitReserve,
+  accountNumber,
+  accountCustomer,
+  accountZone,
+  loadAccount,
+  loadDay,
+  loadContribution,
+  reservationAccount,
+  reservationReserved,
+  reservationCurtailed,
 }
 use Rattle.tables.specs.Limits.{lastZone, lastOwner, lastUnit, lastAccount, lastCustomer, blackStart, reactive, mostReserve}
 

@@ -36,33 +36,33 @@ module _ (month days nonzone : ℕ) (t : Tables) (lentCharges lentCredits : ℕ)
   -- the answer a refuses, and why; "row from 0; 0 for COUNT, ROOM and the head"
   pub data Refused (a : Answer) : Type 0 where
     by-count :
-      (table : Table)
-      → a ≡ refusal COUNT (number table) 0
-      → ((earlier : Table) → number earlier < number table → Counted t earlier)
-      → ¬ Counted t table
-      → Refused a
+        (table : Table)
+        → a ≡ refusal COUNT (number table) 0
+        → ((earlier : Table) → number earlier < number table → Counted t earlier)
+        → ¬ Counted t table
+        → Refused a
     by-charges :
-      a ≡ refusal ROOM charges 0
-      → ((table : Table) → Counted t table)
-      → lentCharges < rows Accounts (t .accounts) * chargeWidth
-      → Refused a
+        a ≡ refusal ROOM charges 0
+        → ((table : Table) → Counted t table)
+        → lentCharges < rows Accounts (t .accounts) * chargeWidth
+        → Refused a
     by-credits :
-      a ≡ refusal ROOM credits 0
-      → ((table : Table) → Counted t table)
-      → rows Accounts (t .accounts) * chargeWidth ≤ lentCharges
-      → lentCredits < rows Owners (t .owners) * creditWidth
-      → Refused a
+        a ≡ refusal ROOM credits 0
+        → ((table : Table) → Counted t table)
+        → rows Accounts (t .accounts) * chargeWidth ≤ lentCharges
+        → lentCredits < rows Owners (t .owners) * creditWidth
+        → Refused a
     by-month :
-      a ≡ refusal MONTH head 0
-      → ((table : Table) → Counted t table)
-      → Roomy t lentCharges lentCredits
-      → isMonth month days ≡ false
-      → Refused a
+        a ≡ refusal MONTH head 0
+        → ((table : Table) → Counted t table)
+        → Roomy t lentCharges lentCredits
+        → isMonth month days ≡ false
+        → Refused a
     by-nonzone :
-      a ≡ refusal RANGE head 0
-      → ((table : Table) → Counted t table)
-      → Roomy t lentCharges lentCredits
-      → isMonth month days ≡ true
-      → mostRate < nonzone
-      → Refused a
+        a ≡ refusal RANGE head 0
+        → ((table : Table) → Counted t table)
+        → Roomy t lentCharges lentCredits
+        → isMonth month days ≡ true
+        → mostRate < nonzone
+        → Refused a
     by-row : (table : Table) (i n : ℕ) → a ≡ refusal n (number table) i → RowRefused table i n → Refused a

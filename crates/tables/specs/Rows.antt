@@ -12,9 +12,27 @@ use Rattle.tables.specs.declared.Table.the-variants.{Zones, Owners, Unit
 use Rattle.tables.specs.Search.{any}
 use Rattle.tables.specs.Shape.{rows, Tables, wordsOf}
 use Rattle.tables.specs.Columns.{
-  entry, zoneNumber, zoneRate, ownerNumber, ownerZone, ownerRequirement, unitNumber, unitOwner, unitZone, unitService, unitRequirement,
-  unitReserve, accountNumber, accountCustomer, accountZone, loadAccount, loadDay, loadContribution, reservationAccount,
-  reservationReserved, reservationCurtailed
+  entry,
+  zoneNumber,
+  zoneRate,
+  ownerNumber,
+  ownerZone,
+  ownerRequirement,
+  unitNumber,
+  unitOwner,
+  unitZone,
+  unitService,
+  unitRequirement,
+  unitReserve,
+  accountNumber,
+  accountCustomer,
+  accountZone,
+  loadAccount,
+  loadDay,
+  loadContribution,
+  reservationAccount,
+  reservationReserved,
+  reservationCurtailed,
 }
 use Rattle.tables.specs.Limits.{lastZone, lastOwner, lastUnit, lastAccount, lastCustomer, blackStart, reactive, reserveLimit}
 
@@ -95,7 +113,7 @@ unfoldable pub unitRow : List ℕ → List ℕ → List ℕ → ℕ → ℕ
 unitRow zones owners units i =
     rowNumber
     (unitOutside (unitNumber units i) (unitOwner units i) (unitZone units i) (unitService units i) (unitRequirement units i)
-      (unitReserve units i))
+    (unitReserve units i))
     (notAbove (byFirst Units units) i)
     (unknown Owners owners (unitOwner units i) || unknown Zones zones (unitZone units i))
     false

@@ -25,40 +25,60 @@ pub enum Table {
 
 // How many entries a row of each table has.
 pub const ZONE_WIDTH: usize = 2;
+
 pub const OWNER_WIDTH: usize = 3;
+
 pub const UNIT_WIDTH: usize = 6;
+
 pub const ACCOUNT_WIDTH: usize = 3;
+
 pub const LOAD_WIDTH: usize = 3;
+
 pub const RESERVATION_WIDTH: usize = 3;
 
 // How many rows each table may have.
 pub const MOST_ZONES: usize = 16;
+
 pub const MOST_OWNERS: usize = 64;
+
 pub const MOST_UNITS: usize = 64;
+
 pub const MOST_ACCOUNTS: usize = 32;
+
 pub const MOST_LOADS: usize = 992;
+
 pub const MOST_RESERVATIONS: usize = 32;
 
 // How many figures an account's row of charges and an owner's row of credits have.
 pub const CHARGE_WIDTH: usize = 3;
+
 pub const CREDIT_WIDTH: usize = 4;
 
 // The highest number that names a zone, an owner, a unit, an account and a customer; each starts at 1.
 pub const LAST_ZONE: u64 = 999;
+
 pub const LAST_OWNER: u64 = 9_999;
+
 pub const LAST_UNIT: u64 = 9_999;
+
 pub const LAST_ACCOUNT: u64 = 9_999;
+
 pub const LAST_CUSTOMER: u64 = 1_000_000_000;
 
 // The most that a rate, an annual requirement, a reserve credit, a day's peak load and a month's energy may be.
 pub const MOST_RATE: u64 = 100_000_000;
+
 pub const MOST_ANNUAL: u64 = 1_000_000_000_000;
+
 pub const MOST_RESERVE: u64 = 10_000_000_000;
+
 pub const MOST_LOAD: u64 = 1_000_000;
+
 pub const MOST_ENERGY: u64 = 1_000_000_000;
 
 // The two services.
 pub const BLACK_START: u64 = 1;
+
 pub const REACTIVE: u64 = 2;
 
 // The number of a table in a refusal.

@@ -26,12 +26,12 @@ unfolding past
 past-end b bytes go = refl
 
 pub past-same : {A : Type 0} (b : ℕ) (bytes : List ℕ) (go : List ℕ → Found A) (c : ℕ) (s : List ℕ) → c ≡ b
-  → past (b ∷ bytes) go (c ∷ s) ≡ past bytes go s
+    → past (b ∷ bytes) go (c ∷ s) ≡ past bytes go s
 unfolding past
 past-same b bytes go c s e = rw (eq-eqb c b e)
 
 pub past-other : {A : Type 0} (b : ℕ) (bytes : List ℕ) (go : List ℕ → Found A) (c : ℕ) (s : List ℕ) → c ≢ b
-  → past (b ∷ bytes) go (c ∷ s) ≡ missing
+    → past (b ∷ bytes) go (c ∷ s) ≡ missing
 unfolding past
 past-other b bytes go c s d = rw (ne-eqb c b d)
 
@@ -52,15 +52,15 @@ pub record Behind {A : Type 0} (bytes : List ℕ) (go : List ℕ → Found A) (s
   pub read : go rest ≡ o
 
 pub past-back : {A : Type 0} (bytes : List ℕ) (go : List ℕ → Found A) (s : List ℕ) (a : A) (t : List ℕ)
-  → past bytes go s ≡ found a t → Behind bytes go s (found a t)
+    → past bytes go s ≡ found a t → Behind bytes go s (found a t)
 past-back [] go s a t e = record { rest = s; written = refl; read = sym (past-none go s) ∙ e }
 past-back (b ∷ bytes) go [] a t e = absurd (never (past-end b bytes go) e)
 past-back (b ∷ bytes) go (c ∷ s) a t e =
     ⊎-elim
     (λ (same : eqb c b ≡ true).
-      let q : c ≡ b = eqb-true c b same in
-      let more : Behind bytes go s (found a t) = past-back bytes go s a t (sym (past-same b bytes go c s q) ∙ e) in
-      record { rest = more .rest; written = ap₂ _∷_ q (more .written); read = more .read })
+    let q : c ≡ b = eqb-true c b same in
+    let more : Behind bytes go s (found a t) = past-back bytes go s a t (sym (past-same b bytes go c s q) ∙ e) in
+    record { rest = more .rest; written = ap₂ _∷_ q (more .written); read = more .read })
     (λ (other : eqb c b ≡ false). absurd (never (past-other b bytes go c s (eqb-false c b other)) e))
     (true-or-false (eqb c b))
 
@@ -72,7 +72,7 @@ past-apart (a ∷ x) [] go s e = absurd (true≢false (sym e))
 past-apart (a ∷ x) (b ∷ y) go s e =
     ⊎-elim
     (λ (same : eqb a b ≡ true).
-      past-same a x go b (y ++ s) (sym (eqb-true a b same)) ∙ past-apart x y go s (rw same at e))
+    past-same a x go b (y ++ s) (sym (eqb-true a b same)) ∙ past-apart x y go s (rw same at e))
     (λ (other : eqb a b ≡ false). past-other a x go b (y ++ s) (λ q. eqb-false a b other (sym q)))
     (true-or-false (eqb a b))
 
@@ -89,7 +89,7 @@ unfolding field
 field-of-missing following s e = rw e
 
 pub field-of-found : (following : ℕ) (s : List ℕ) (n : ℕ) (t : List ℕ) → number s ≡ found n t
-  → field following s ≡ past (separator following ∷ []) (found n) t
+    → field following s ≡ past (separator following ∷ []) (found n) t
 unfolding field
 field-of-found following s n t e = rw e
 
@@ -101,12 +101,12 @@ field-text following n rest h =
     ∙ past-text (separator following ∷ []) (found n) rest
 
 pub field-back : (following : ℕ) (s : List ℕ) (n : ℕ) (rest : List ℕ) → field following s ≡ found n rest
-  → Decimal n s (separator following ∷ rest)
+    → Decimal n s (separator following ∷ rest)
 unfolding field
 field-back following s n rest e = go (number s) refl e
   where
     go : (o : Found ℕ) → number s ≡ o → behind o (λ m t. past (separator following ∷ []) (found m) t) ≡ found n rest
-      → Decimal n s (separator following ∷ rest)
+        → Decimal n s (separator following ∷ rest)
     go missing p q = absurd (never refl q)
     go (found m t) p q =
         let back : Behind (separator following ∷ []) (found m) t (found n rest) = past-back (separator following ∷ []) (found m) t n rest q in
@@ -118,7 +118,8 @@ field-back following s n rest e = go (number s) refl e
           written =
               whole .written ∙ ap (λ u. decimal m ++ u) (back .written)
               ∙ ap₂ (λ k u. decimal k ++ (separator following ∷ u)) value left;
-          small = subst (λ k. k < bound) value (whole .small) }
+          small = subst (λ k. k < bound) value (whole .small);
+        }
 
 pub fields-none : (s : List ℕ) → fields 0 s ≡ found [] s
 unfolding fields
@@ -129,7 +130,7 @@ abbrev pub withFirst : ℕ → Found (List ℕ) → Found (List ℕ)
 withFirst n o = behind o (λ ns u. found (n ∷ ns) u)
 
 pub fields-on : (following : ℕ) (s : List ℕ) (n : ℕ) (t : List ℕ) → field following s ≡ found n t
-  → fields (suc following) s ≡ withFirst n (fields following t)
+    → fields (suc following) s ≡ withFirst n (fields following t)
 unfolding fields
 fields-on following s n t e = rw e
 
@@ -143,7 +144,7 @@ fields-text [] rest h = fields-none rest
 fields-text (n ∷ ns) rest h =
     ap (fields (suc (length ns))) (append-assoc (decimal n) (separator (length ns) ∷ fieldsText ns) rest)
     ∙ fields-on (length ns) (decimal n ++ (separator (length ns) ∷ (fieldsText ns ++ rest))) n (fieldsText ns ++ rest)
-      (field-text (length ns) n (fieldsText ns ++ rest) (h 0))
+    (field-text (length ns) n (fieldsText ns ++ rest) (h 0))
     ∙ ap (withFirst n) (fields-text ns rest (λ i. h (suc i)))
 
 pub record Fields (width : ℕ) (s ns rest : List ℕ) : Type 0 where
@@ -161,8 +162,8 @@ fields-back zero s ns rest e =
 fields-back (suc following) s ns rest e = first (field following s) refl (λ t ms u q. fields-back following t ms u q)
   where
     later : (n : ℕ) (t : List ℕ) (o : Found (List ℕ)) → field following s ≡ found n t → fields following t ≡ o
-      → withFirst n o ≡ found ns rest → ((t ms u : List ℕ) → fields following t ≡ found ms u → Fields following t ms u)
-      → Fields (suc following) s ns rest
+        → withFirst n o ≡ found ns rest → ((t ms u : List ℕ) → fields following t ≡ found ms u → Fields following t ms u)
+        → Fields (suc following) s ns rest
     later n t missing p q r go = absurd (never refl r)
     later n t (found ms u) p q r go =
         let value : n ∷ ms ≡ ns = cc in
@@ -174,12 +175,14 @@ fields-back (suc following) s ns rest e = first (field following s) refl (λ t m
           written =
               one .written
               ∙ ap₂ (λ k v. decimal n ++ (separator k ∷ v)) (sym (more .width-is))
-                (more .written ∙ ap (λ v. fieldsText ms ++ v) left)
+              (more .written ∙ ap (λ v. fieldsText ms ++ v) left)
               ∙ sym (append-assoc (decimal n) (separator (length ms) ∷ fieldsText ms) rest);
           width-is = ap suc (more .width-is);
-          below = below-cons n ms (one .small) (more .below) })
+          below = below-cons n ms (one .small) (more .below);
+        })
+
     first : (o : Found ℕ) → field following s ≡ o → ((t ms u : List ℕ) → fields following t ≡ found ms u → Fields following t ms u)
-      → Fields (suc following) s ns rest
+        → Fields (suc following) s ns rest
     first missing p go = absurd (never (fields-stop following s p) e)
     first (found n t) p go = later n t (fields following t) p refl (sym (fields-on following s n t p) ∙ e) go
 
@@ -201,18 +204,19 @@ pub line-back : (key : List ℕ) (width : ℕ) (s ns rest : List ℕ) → line k
 unfolding line lineText
 line-back key width s ns rest e =
     let back : Behind (key ++ (equals ∷ [])) (fields width) s (found ns rest) =
-          past-back (key ++ (equals ∷ [])) (fields width) s ns rest e in
+    past-back (key ++ (equals ∷ [])) (fields width) s ns rest e in
     let inner : Fields width (back .rest) ns rest = fields-back width (back .rest) ns rest (back .read) in
     record {
       written =
           back .written ∙ ap (λ u. (key ++ (equals ∷ [])) ++ u) (inner .written)
           ∙ sym (append-assoc (key ++ (equals ∷ [])) (fieldsText ns) rest);
       width-is = inner .width-is;
-      below = inner .below }
+      below = inner .below;
+    }
 
 -- a line with another key does not fit, and nothing fits at the text's end
 pub line-apart : (key other : List ℕ) (width : ℕ) (ns rest : List ℕ) → apart (key ++ (equals ∷ [])) (other ++ (equals ∷ [])) ≡ true
-  → line key width (lineText other ns ++ rest) ≡ missing
+    → line key width (lineText other ns ++ rest) ≡ missing
 unfolding line lineText
 line-apart key other width ns rest e =
     ap (past (key ++ (equals ∷ [])) (fields width)) (append-assoc (other ++ (equals ∷ [])) (fieldsText ns) rest)

@@ -45,7 +45,7 @@ digit-range byte e = both (leb 48 byte) (ltb byte 58) refl refl e
 
 -- one more digit, and the places where a decimal ends
 pub on-digit : (n byte : ℕ) (s : List ℕ) → isDigit byte ≡ true → n * 10 + digitOf byte < bound
-  → digitsOn n (byte ∷ s) ≡ digitsOn (n * 10 + digitOf byte) s
+    → digitsOn n (byte ∷ s) ≡ digitsOn (n * 10 + digitOf byte) s
 unfolding digitsOn
 on-digit n byte s e h = rw (e, lt-ltb (n * 10 + digitOf byte) bound h)
 
@@ -98,9 +98,9 @@ digits-room (suc most) n h =
     ⊎-elim
     (λ (low : n < 10). digits-one (suc most) n low ∙ sym (digits-one (suc (suc most)) n low))
     (λ (high : 10 ≤ n).
-      digits-more (suc most) n high
-      ∙ ap (λ front. front ++ (byteOf (n % 10) ∷ [])) (digits-room most (n / 10) (tenth most n h))
-      ∙ sym (digits-more (suc (suc most)) n high))
+    digits-more (suc most) n high
+    ∙ ap (λ front. front ++ (byteOf (n % 10) ∷ [])) (digits-room most (n / 10) (tenth most n h))
+    ∙ sym (digits-more (suc (suc most)) n high))
     (lt-or-le n 10)
 
 -- the digits of a number above 0 in front of a text
@@ -118,14 +118,14 @@ digits-read (suc most) n t h p b =
     ⊎-elim
     (λ (low : n < 10). ap (λ ds. number (ds ++ t)) (digits-one (suc most) n low) ∙ one-read n t low p)
     (λ (high : 10 ≤ n).
-      let last : ℕ = byteOf (n % 10) in
-      let whole : n / 10 * 10 + digitOf last ≡ n = omega arith in
-      let fits : n / 10 * 10 + digitOf last < bound = omega arith in
-      ap (λ ds. number (ds ++ t)) (digits-more (suc most) n high)
-      ∙ ap number (append-assoc (digits (suc most) (n / 10)) (last ∷ []) t)
-      ∙ digits-read most (n / 10) (last ∷ t) (tenth most n h) (omega arith) (omega arith)
-      ∙ on-digit (n / 10) last t (digit-is last (omega arith) (omega arith)) fits
-      ∙ ap (λ k. digitsOn k t) whole)
+    let last : ℕ = byteOf (n % 10) in
+    let whole : n / 10 * 10 + digitOf last ≡ n = omega arith in
+    let fits : n / 10 * 10 + digitOf last < bound = omega arith in
+    ap (λ ds. number (ds ++ t)) (digits-more (suc most) n high)
+    ∙ ap number (append-assoc (digits (suc most) (n / 10)) (last ∷ []) t)
+    ∙ digits-read most (n / 10) (last ∷ t) (tenth most n h) (omega arith) (omega arith)
+    ∙ on-digit (n / 10) last t (digit-is last (omega arith) (omega arith)) fits
+    ∙ ap (λ k. digitsOn k t) whole)
     (lt-or-le n 10)
 
 room : {n : ℕ} → n < bound → n < 10 ^ mostDigits
@@ -137,11 +137,11 @@ unfolding decimal
 number-decimal n byte s h e =
     ⊎-elim
     (λ (z : n < 1).
-      let none : n ≡ 0 = omega arith in
-      ap (λ k. number (digits mostDigits k ++ (byte ∷ s))) none
-      ∙ ap (λ ds. number (ds ++ (byte ∷ s))) (digits-one 19 0 (lit< tt))
-      ∙ number-zero (byteOf 0) (byte ∷ s) refl
-      ∙ ap (λ k. found k (byte ∷ s)) (sym none))
+    let none : n ≡ 0 = omega arith in
+    ap (λ k. number (digits mostDigits k ++ (byte ∷ s))) none
+    ∙ ap (λ ds. number (ds ++ (byte ∷ s))) (digits-one 19 0 (lit< tt))
+    ∙ number-zero (byteOf 0) (byte ∷ s) refl
+    ∙ ap (λ k. found k (byte ∷ s)) (sym none))
     (λ (p : 1 ≤ n). digits-read 19 n (byte ∷ s) (room h) p h ∙ on-other n byte s e)
     (lt-or-le n 1)
 
@@ -166,7 +166,7 @@ pub record Decimal (n : ℕ) (s rest : List ℕ) : Type 0 where
   pub small : n < bound
 
 on-back : (n : ℕ) (s : List ℕ) (m : ℕ) (rest : List ℕ) → 0 < n → n < bound → digitsOn n s ≡ found m rest
-  → Decimal m (decimal n ++ s) rest
+    → Decimal m (decimal n ++ s) rest
 on-back n [] m rest p h e =
     let same : found n [] ≡ found m rest = sym (on-end n) ∙ e in
     let value : n ≡ m = cc in
@@ -175,24 +175,24 @@ on-back n [] m rest p h e =
 on-back n (byte ∷ s) m rest p h e =
     ⊎-elim
     (λ (d : isDigit byte ≡ true).
-      ⊎-elim
-      (λ (fits : n * 10 + digitOf byte < bound).
-        let range : (48 ≤ byte) × (byte < 58) = digit-range byte d in
-        let back : byteOf (digitOf byte) ≡ byte = omega arith in
-        let more : Decimal m (decimal (n * 10 + digitOf byte) ++ s) rest =
-              on-back (n * 10 + digitOf byte) s m rest (omega arith) fits (sym (on-digit n byte s d fits) ∙ e) in
-        let moved : decimal (n * 10 + digitOf byte) ++ s ≡ decimal n ++ (byte ∷ s) =
-              ap (λ ds. ds ++ s) (decimal-on n (digitOf byte) p (omega arith) fits)
-              ∙ append-assoc (decimal n) (byteOf (digitOf byte) ∷ []) s
-              ∙ ap (λ k. decimal n ++ (k ∷ s)) back in
-        record { written = sym moved ∙ more .written; small = more .small })
-      (λ (big : bound ≤ n * 10 + digitOf byte). absurd (never (on-big n byte s d big) e))
-      (lt-or-le (n * 10 + digitOf byte) bound))
+    ⊎-elim
+    (λ (fits : n * 10 + digitOf byte < bound).
+    let range : (48 ≤ byte) × (byte < 58) = digit-range byte d in
+    let back : byteOf (digitOf byte) ≡ byte = omega arith in
+    let more : Decimal m (decimal (n * 10 + digitOf byte) ++ s) rest =
+    on-back (n * 10 + digitOf byte) s m rest (omega arith) fits (sym (on-digit n byte s d fits) ∙ e) in
+    let moved : decimal (n * 10 + digitOf byte) ++ s ≡ decimal n ++ (byte ∷ s) =
+    ap (λ ds. ds ++ s) (decimal-on n (digitOf byte) p (omega arith) fits)
+    ∙ append-assoc (decimal n) (byteOf (digitOf byte) ∷ []) s
+    ∙ ap (λ k. decimal n ++ (k ∷ s)) back in
+    record { written = sym moved ∙ more .written; small = more .small })
+    (λ (big : bound ≤ n * 10 + digitOf byte). absurd (never (on-big n byte s d big) e))
+    (lt-or-le (n * 10 + digitOf byte) bound))
     (λ (d : isDigit byte ≡ false).
-      let same : found n (byte ∷ s) ≡ found m rest = sym (on-other n byte s d) ∙ e in
-      let value : n ≡ m = cc in
-      let left : byte ∷ s ≡ rest = cc in
-      record { written = ap₂ (λ k t. decimal k ++ t) value left; small = subst (λ k. k < bound) value h })
+    let same : found n (byte ∷ s) ≡ found m rest = sym (on-other n byte s d) ∙ e in
+    let value : n ≡ m = cc in
+    let left : byte ∷ s ≡ rest = cc in
+    record { written = ap₂ (λ k t. decimal k ++ t) value left; small = subst (λ k. k < bound) value h })
     (true-or-false (isDigit byte))
 
 -- what reads as a number is its decimal
@@ -201,29 +201,31 @@ decimal-number [] n rest e = absurd (never number-end e)
 decimal-number (byte ∷ s) n rest e =
     ⊎-elim
     (λ (d : isDigit byte ≡ true).
-      let range : (48 ≤ byte) × (byte < 58) = digit-range byte d in
-      ⊎-elim
-      (λ (low : byte < 49).
-        let zero-is : byte ≡ 48 = omega arith in
-        let same : found 0 s ≡ found n rest = sym (number-zero byte s zero-is) ∙ e in
-        let value : 0 ≡ n = cc in
-        let left : s ≡ rest = cc in
-        record {
-          written =
-              ap₂ _∷_ zero-is left
-              ∙ ap (λ ds. ds ++ rest) (sym (decimal-one 0 (lit< tt)))
-              ∙ ap (λ k. decimal k ++ rest) value;
-          small = subst (λ k. k < bound) value (lit< tt) })
-      (λ (high : 49 ≤ byte).
-        let back : byteOf (digitOf byte) ≡ byte = omega arith in
-        let more : Decimal n (decimal (digitOf byte) ++ s) rest =
-              on-back (digitOf byte) s n rest (omega arith) (omega arith)
-              (sym (number-first byte s d (λ q. let z : byte ≡ 48 = q in omega arith)) ∙ e) in
-        record {
-          written =
-              ap (λ k. k ∷ s) (sym back) ∙ ap (λ ds. ds ++ s) (sym (decimal-one (digitOf byte) (omega arith))) ∙ more .written;
-          small = more .small })
-      (lt-or-le byte 49))
+    let range : (48 ≤ byte) × (byte < 58) = digit-range byte d in
+    ⊎-elim
+    (λ (low : byte < 49).
+    let zero-is : byte ≡ 48 = omega arith in
+    let same : found 0 s ≡ found n rest = sym (number-zero byte s zero-is) ∙ e in
+    let value : 0 ≡ n = cc in
+    let left : s ≡ rest = cc in
+    record {
+      written =
+          ap₂ _∷_ zero-is left
+          ∙ ap (λ ds. ds ++ rest) (sym (decimal-one 0 (lit< tt)))
+          ∙ ap (λ k. decimal k ++ rest) value;
+      small = subst (λ k. k < bound) value (lit< tt);
+    })
+    (λ (high : 49 ≤ byte).
+    let back : byteOf (digitOf byte) ≡ byte = omega arith in
+    let more : Decimal n (decimal (digitOf byte) ++ s) rest =
+    on-back (digitOf byte) s n rest (omega arith) (omega arith)
+    (sym (number-first byte s d (λ q. let z : byte ≡ 48 = q in omega arith)) ∙ e) in
+    record {
+      written =
+          ap (λ k. k ∷ s) (sym back) ∙ ap (λ ds. ds ++ s) (sym (decimal-one (digitOf byte) (omega arith))) ∙ more .written;
+      small = more .small;
+    })
+    (lt-or-le byte 49))
     (λ (d : isDigit byte ≡ false). absurd (never (number-other byte s d) e))
     (true-or-false (isDigit byte))
 
@@ -242,8 +244,8 @@ length-digits (suc most) n =
     ⊎-elim
     (λ (low : n < 10). rw (digits-one (suc most) n low) (omega arith))
     (λ (high : 10 ≤ n).
-      let front = length-digits most (n / 10) in
-      rw (digits-more (suc most) n high, length-append) (omega arith))
+    let front = length-digits most (n / 10) in
+    rw (digits-more (suc most) n high, length-append) (omega arith))
     (lt-or-le n 10)
 
 pub length-decimal : (n : ℕ) → (1 ≤ length (decimal n)) × (length (decimal n) ≤ mostDigits)

@@ -39,22 +39,22 @@ module _ (words : List ℕ) (left next : ℕ) (p : 0 < left) (h : next + left �
   tail-size = length-take-le (left - 1) (drop (next + 1) words) (rw length-drop (omega arith))
 
   pub text-next : fieldsText (take left (drop next words))
-    ≡ decimal (at words next) ++ (separator (left - 1) ∷ fieldsText (take (left - 1) (drop (next + 1) words)))
+      ≡ decimal (at words next) ++ (separator (left - 1) ∷ fieldsText (take (left - 1) (drop (next + 1) words)))
   text-next =
       ap fieldsText take-next
       ∙ text-first (at words next) (take (left - 1) (drop (next + 1) words))
       ∙ ap (λ k. decimal (at words next) ++ (separator k ∷ fieldsText (take (left - 1) (drop (next + 1) words)))) tail-size
 
   pub length-next : length (fieldsText (take left (drop next words)))
-    ≡ length (decimal (at words next)) + (1 + length (fieldsText (take (left - 1) (drop (next + 1) words))))
+      ≡ length (decimal (at words next)) + (1 + length (fieldsText (take (left - 1) (drop (next + 1) words))))
   length-next =
       ap length text-next
       ∙ length-append (decimal (at words next)) (separator (left - 1) ∷ fieldsText (take (left - 1) (drop (next + 1) words)))
       ∙ (let q : length (decimal (at words next)) + suc (length (fieldsText (take (left - 1) (drop (next + 1) words))))
-               ≡ length (decimal (at words next)) + (1 + length (fieldsText (take (left - 1) (drop (next + 1) words)))) = omega arith in q)
+      ≡ length (decimal (at words next)) + (1 + length (fieldsText (take (left - 1) (drop (next + 1) words)))) = omega arith in q)
 
   pub put-next : (out : List ℕ) (i n behind : ℕ) (mid : List ℕ) → Put out i (decimal (at words next)) n mid → behind ≡ separator (left - 1)
-    → stored (set mid n behind) (n + 1) (fieldsText (take (left - 1) (drop (next + 1) words)))
+      → stored (set mid n behind) (n + 1) (fieldsText (take (left - 1) (drop (next + 1) words)))
       ≡ stored out i (fieldsText (take left (drop next words)))
   put-next out i n behind mid w e =
       let tail : List ℕ = fieldsText (take (left - 1) (drop (next + 1) words)) in
@@ -66,7 +66,7 @@ module _ (words : List ℕ) (left next : ℕ) (p : 0 < left) (h : next + left �
 
 -- a key, its equals sign and the fields, one after the other
 pub put-keyed : (out : List ℕ) (i : ℕ) (key ns : List ℕ) (n m : ℕ) (mid after : List ℕ) → Put out i key n mid
-  → Put (set mid n equals) (n + 1) (fieldsText ns) m after → Put out i (lineText key ns) m after
+    → Put (set mid n equals) (n + 1) (fieldsText ns) m after → Put out i (lineText key ns) m after
 unfolding lineText
 put-keyed out i key ns n m mid after p q =
     put-append out i (key ++ (equals ∷ [])) (fieldsText ns) (n + 1) m (set mid n equals) after

@@ -27,7 +27,7 @@ drop-end s i h = drop-of-length-le s h
 
 -- a number that was read up to an offset, and none
 pub number-found : (s : List ℕ) (o : Found ℕ) (v n : ℕ) → 0 < n → n ≤ length s → o ≡ found v (drop n s)
-  → NumberAt s o (record { value = v; next = n })
+    → NumberAt s o (record { value = v; next = n })
 number-found s o v n p h e =
     record { inside = h; fits = λ d. e; unfit = λ z. absurd (let q : n ≡ 0 = z in omega arith) }
 
@@ -37,11 +37,11 @@ number-missing s o e = record { inside = omega arith; fits = λ d. absurd (d ref
 -- the digits of a number: what is left from here on is what was to be read from the start
 module _ (s : List ℕ) (o : Found ℕ) (value i : ℕ) (same : o ≡ digitsOn value (drop i s)) (p : 0 < i) where
   pub digits-next : i < length s → isDigit (at s i) ≡ true → value * 10 + digitOf (at s i) < bound
-    → o ≡ digitsOn (value * 10 + digitOf (at s i)) (drop (i + 1) s)
+      → o ≡ digitsOn (value * 10 + digitOf (at s i)) (drop (i + 1) s)
   digits-next h d b = same ∙ ap (digitsOn value) (drop-next s i h) ∙ on-digit value (at s i) (drop (i + 1) s) d b
 
   pub digits-big : i < length s → isDigit (at s i) ≡ true → bound ≤ value * 10 + digitOf (at s i)
-    → NumberAt s o (record { value = 0; next = 0 })
+      → NumberAt s o (record { value = 0; next = 0 })
   digits-big h d b =
       number-missing s o (same ∙ ap (digitsOn value) (drop-next s i h) ∙ on-big value (at s i) (drop (i + 1) s) d b)
 
@@ -70,23 +70,23 @@ module _ (s : List ℕ) (i : ℕ) where
       (ap number (drop-next s i h) ∙ number-zero (at s i) (drop (i + 1) s) e)
 
   pub number-goes-on : i < length s → isDigit (at s i) ≡ true → at s i ≢ zeroByte → (first : ℕ) → first ≡ digitOf (at s i)
-    → (r : Number) → NumberAt s (digitsOn first (drop (i + 1) s)) r → NumberAt s (number (drop i s)) r
+      → (r : Number) → NumberAt s (digitsOn first (drop (i + 1) s)) r → NumberAt s (number (drop i s)) r
   number-goes-on h d q first e r a =
       subst (λ o. NumberAt s o r)
       (ap (λ k. digitsOn k (drop (i + 1) s)) e ∙ sym (number-first (at s i) (drop (i + 1) s) d q) ∙ ap number (sym (drop-next s i h))) a
 
 -- a key with its equals sign, byte by byte
 module _ (key s rest : List ℕ) (k i : ℕ)
-  (so-far : (go : List ℕ → Found (List ℕ)) → past (key ++ (equals ∷ [])) go rest ≡ past (drop k key ++ (equals ∷ [])) go (drop i s)) where
+    (so-far : (go : List ℕ → Found (List ℕ)) → past (key ++ (equals ∷ [])) go rest ≡ past (drop k key ++ (equals ∷ [])) go (drop i s)) where
   opened : k < length key → (go : List ℕ → Found (List ℕ))
-    → past (key ++ (equals ∷ [])) go rest ≡ past (at key k ∷ (drop (k + 1) key ++ (equals ∷ []))) go (drop i s)
+      → past (key ++ (equals ∷ [])) go rest ≡ past (at key k ∷ (drop (k + 1) key ++ (equals ∷ []))) go (drop i s)
   opened h go = so-far go ∙ ap (λ l. past (l ++ (equals ∷ [])) go (drop i s)) (drop-next key k h)
 
   unmatched : ((go : List ℕ → Found (List ℕ)) → past (key ++ (equals ∷ [])) go rest ≡ missing) → KeyAt key s rest 0
   unmatched e = record { inside = omega arith; fits = λ d. absurd (d refl); unfit = λ z. e }
 
   pub key-next : k < length key → i < length s → at s i ≡ at key k → (go : List ℕ → Found (List ℕ))
-    → past (key ++ (equals ∷ [])) go rest ≡ past (drop (k + 1) key ++ (equals ∷ [])) go (drop (i + 1) s)
+      → past (key ++ (equals ∷ [])) go rest ≡ past (drop (k + 1) key ++ (equals ∷ [])) go (drop (i + 1) s)
   key-next h b e go =
       opened h go ∙ ap (past (at key k ∷ (drop (k + 1) key ++ (equals ∷ []))) go) (drop-next s i b)
       ∙ past-same (at key k) (drop (k + 1) key ++ (equals ∷ [])) go (at s i) (drop (i + 1) s) e
@@ -94,12 +94,12 @@ module _ (key s rest : List ℕ) (k i : ℕ)
   pub key-short : k < length key → length s ≤ i → KeyAt key s rest 0
   key-short h b =
       unmatched (λ go. opened h go ∙ ap (past (at key k ∷ (drop (k + 1) key ++ (equals ∷ []))) go) (drop-end s i b)
-        ∙ past-end (at key k) (drop (k + 1) key ++ (equals ∷ [])) go)
+      ∙ past-end (at key k) (drop (k + 1) key ++ (equals ∷ [])) go)
 
   pub key-other : k < length key → i < length s → at s i ≢ at key k → KeyAt key s rest 0
   key-other h b d =
       unmatched (λ go. opened h go ∙ ap (past (at key k ∷ (drop (k + 1) key ++ (equals ∷ []))) go) (drop-next s i b)
-        ∙ past-other (at key k) (drop (k + 1) key ++ (equals ∷ [])) go (at s i) (drop (i + 1) s) d)
+      ∙ past-other (at key k) (drop (k + 1) key ++ (equals ∷ [])) go (at s i) (drop (i + 1) s) d)
 
   done : length key ≤ k → (go : List ℕ → Found (List ℕ)) → past (key ++ (equals ∷ [])) go rest ≡ past (equals ∷ []) go (drop i s)
   done h go = so-far go ∙ ap (λ l. past (l ++ (equals ∷ [])) go (drop i s)) (drop-end key k h)
@@ -116,8 +116,9 @@ module _ (key s rest : List ℕ) (k i : ℕ)
       record {
         inside = omega arith;
         fits = λ d go. done h go ∙ ap (past (equals ∷ []) go) (drop-next s i b)
-          ∙ past-same equals [] go (at s i) (drop (i + 1) s) e ∙ past-none go (drop (i + 1) s);
-        unfit = λ z. absurd (let q : i + 1 ≡ 0 = z in omega arith) }
+            ∙ past-same equals [] go (at s i) (drop (i + 1) s) e ∙ past-none go (drop (i + 1) s);
+        unfit = λ z. absurd (let q : i + 1 ≡ 0 = z in omega arith);
+      }
 
 -- a field: a number, and what stands behind it
 module _ (s : List ℕ) (i following : ℕ) (r : Number) (a : NumberAt s (number (drop i s)) r) where
@@ -131,22 +132,22 @@ module _ (s : List ℕ) (i following : ℕ) (r : Number) (a : NumberAt s (number
   field-cut d h =
       number-missing s (field following (drop i s))
       (behind-number d ∙ ap (past (separator following ∷ []) (found (r .value))) (drop-end s (r .next) h)
-        ∙ past-end (separator following) [] (found (r .value)))
+      ∙ past-end (separator following) [] (found (r .value)))
 
   pub field-other : r .next ≢ 0 → r .next < length s → at s (r .next) ≢ separator following
-    → NumberAt s (field following (drop i s)) (record { value = 0; next = 0 })
+      → NumberAt s (field following (drop i s)) (record { value = 0; next = 0 })
   field-other d h q =
       number-missing s (field following (drop i s))
       (behind-number d ∙ ap (past (separator following ∷ []) (found (r .value))) (drop-next s (r .next) h)
-        ∙ past-other (separator following) [] (found (r .value)) (at s (r .next)) (drop (r .next + 1) s) q)
+      ∙ past-other (separator following) [] (found (r .value)) (at s (r .next)) (drop (r .next + 1) s) q)
 
   pub field-there : r .next ≢ 0 → r .next < length s → at s (r .next) ≡ separator following
-    → NumberAt s (field following (drop i s)) (record { value = r .value; next = r .next + 1 })
+      → NumberAt s (field following (drop i s)) (record { value = r .value; next = r .next + 1 })
   field-there d h q =
       number-found s (field following (drop i s)) (r .value) (r .next + 1) (omega arith) (omega arith)
       (behind-number d ∙ ap (past (separator following ∷ []) (found (r .value))) (drop-next s (r .next) h)
-        ∙ past-same (separator following) [] (found (r .value)) (at s (r .next)) (drop (r .next + 1) s) q
-        ∙ past-none (found (r .value)) (drop (r .next + 1) s))
+      ∙ past-same (separator following) [] (found (r .value)) (at s (r .next)) (drop (r .next + 1) s) q
+      ∙ past-none (found (r .value)) (drop (r .next + 1) s))
 
 -- fields in front of others
 abbrev pub withFront : List ℕ → Found (List ℕ) → Found (List ℕ)
@@ -178,11 +179,13 @@ module _ (s : List ℕ) (o : Found (List ℕ)) (i left : ℕ) (so-far : Partly o
       let none-left : left ≡ 0 = omega arith in
       record {
         inside = h;
-        fits = λ d.
-          (so-far .front ++ []
-          , so-far .whole ∙ ap (λ k. withFront (so-far .front) (fields k (drop i s))) none-left
-            ∙ ap (withFront (so-far .front)) (fields-none (drop i s)));
-        unfit = λ e. absurd (let q : i ≡ 0 = e in omega arith) }
+        fits = λ d. (
+          so-far .front ++ [],
+          so-far .whole ∙ ap (λ k. withFront (so-far .front) (fields k (drop i s))) none-left
+              ∙ ap (withFront (so-far .front)) (fields-none (drop i s)),
+        );
+        unfit = λ e. absurd (let q : i ≡ 0 = e in omega arith);
+      }
 
   module _ (p : 0 < left) (r : Number) (a : NumberAt s (field (left - 1) (drop i s)) r) where
     opens : fields left (drop i s) ≡ fields (suc (left - 1)) (drop i s)
@@ -199,7 +202,8 @@ module _ (s : List ℕ) (o : Found (List ℕ)) (i left : ℕ) (so-far : Partly o
           whole =
               so-far .whole
               ∙ ap (withFront (so-far .front)) (opens ∙ fields-on (left - 1) (drop i s) (r .value) (drop (r .next) s) (a .fits d))
-              ∙ front-more (so-far .front) (r .value) (fields (left - 1) (drop (r .next) s)) }
+              ∙ front-more (so-far .front) (r .value) (fields (left - 1) (drop (r .next) s));
+        }
 
 -- a field that is known to be there
 first-fields : (n : ℕ) (o : Found (List ℕ)) → o ≢ missing → fieldsOf (withFirst n o) ≡ n ∷ fieldsOf o
@@ -211,7 +215,7 @@ first-rest n (found ns t) = refl
 first-rest n missing = refl
 
 module _ (s : List ℕ) (i left : ℕ) (p : 0 < left) (there : fields left (drop i s) ≢ missing) (r : Number)
-  (a : NumberAt s (field (left - 1) (drop i s)) r) where
+    (a : NumberAt s (field (left - 1) (drop i s)) r) where
   one-more : fields left (drop i s) ≡ fields (suc (left - 1)) (drop i s)
   one-more = let e : left ≡ suc (left - 1) = omega arith in ap (λ k. fields k (drop i s)) e
 
@@ -228,11 +232,11 @@ module _ (s : List ℕ) (i left : ℕ) (p : 0 < left) (there : fields left (drop
   taken-rest = sym (ap restOf onward ∙ first-rest (r .value) (fields (left - 1) (drop (r .next) s)))
 
   pub taken-stored : (words : List ℕ) (store : ℕ)
-    → stored (set words store (r .value)) (store + 1) (fieldsOf (fields (left - 1) (drop (r .next) s)))
+      → stored (set words store (r .value)) (store + 1) (fieldsOf (fields (left - 1) (drop (r .next) s)))
       ≡ stored words store (fieldsOf (fields left (drop i s)))
   taken-stored words store =
       sym (ap (stored words store) (ap fieldsOf onward ∙ first-fields (r .value) (fields (left - 1) (drop (r .next) s)) taken-there)
-        ∙ stored-first words store (r .value) (fieldsOf (fields (left - 1) (drop (r .next) s))))
+      ∙ stored-first words store (r .value) (fieldsOf (fields (left - 1) (drop (r .next) s))))
 
 -- the fields of a line that is known to be there stand behind its key
 pub record Keyed (key : List ℕ) (width : ℕ) (s : List ℕ) (i : ℕ) : Type 0 where
@@ -247,16 +251,16 @@ keyed key width s i there = go (line key width (drop i s)) refl
     go missing e = absurd (there e)
     go (found ns t) e =
         let back : Behind (key ++ (equals ∷ [])) (fields width) (drop i s) (found ns t) =
-              past-back (key ++ (equals ∷ [])) (fields width) (drop i s) ns t e in
+        past-back (key ++ (equals ∷ [])) (fields width) (drop i s) ns t e in
         let size : length (key ++ (equals ∷ [])) ≡ length key + 1 = length-append key (equals ∷ []) in
         let whole : length (drop i s) ≡ length key + 1 + length (back .rest) =
-              ap length (back .written) ∙ length-append (key ++ (equals ∷ [])) (back .rest) ∙ ap (λ k. k + length (back .rest)) size in
+        ap length (back .written) ∙ length-append (key ++ (equals ∷ [])) (back .rest) ∙ ap (λ k. k + length (back .rest)) size in
         let left : length (drop i s) ≡ length s - i = length-drop i s in
         let far : drop (i + length key + 1) s ≡ back .rest =
-              (let q : i + length key + 1 ≡ i + (length key + 1) = omega arith in ap (λ k. drop k s) q)
-              ∙ sym (drop-drop (length key + 1) i s)
-              ∙ ap (drop (length key + 1)) (back .written)
-              ∙ drop-at (key ++ (equals ∷ [])) (back .rest) (length key + 1) size in
+        (let q : i + length key + 1 ≡ i + (length key + 1) = omega arith in ap (λ k. drop k s) q)
+        ∙ sym (drop-drop (length key + 1) i s)
+        ∙ ap (drop (length key + 1)) (back .written)
+        ∙ drop-at (key ++ (equals ∷ [])) (back .rest) (length key + 1) size in
         record { inside = omega arith; same = ap (fields width) far ∙ back .read ∙ sym e }
 
 -- a line is its fields behind its key

@@ -29,7 +29,7 @@ length-stored l at vs = length-sets l at vs
 
 -- the piece at its place, and everything else as it was
 pub stored-is : (l : List ℕ) (at : ℕ) (vs : List ℕ) → at + length vs ≤ length l
-  → stored l at vs ≡ (take at l ++ vs) ++ drop (at + length vs) l
+    → stored l at vs ≡ (take at l ++ vs) ++ drop (at + length vs) l
 unfolding stored
 stored-is l at vs h = sets-eq vs l at h
 
@@ -59,7 +59,8 @@ put-append l at x y n m k j p q =
           let b : m ≡ n + length y = q .onward in
           omega arith;
       written =
-          q .written ∙ ap₂ (λ k i. stored k i y) (p .written) (p .onward) ∙ sym (stored-append l at x y) }
+          q .written ∙ ap₂ (λ k i. stored k i y) (p .written) (p .onward) ∙ sym (stored-append l at x y);
+    }
 
 pub put-nothing : (l : List ℕ) (at : ℕ) → Put l at [] at l
 put-nothing l at = record { onward = sym (add-zero at); written = sym (stored-none l at) }
@@ -75,7 +76,8 @@ sized-append before x y cap n m p q =
           let size : length (x ++ y) ≡ length x + length y = length-append x y in
           let a : n ≡ min (before + length x) cap = p .capped in
           let b : m ≡ min (n + length y) cap = q .capped in
-          omega arith }
+          omega arith;
+    }
 
 pub sized-most : (before : ℕ) (x : List ℕ) (cap n : ℕ) → Sized before x cap n → n ≤ cap
 sized-most before x cap n p = let a : n ≡ min (before + length x) cap = p .capped in omega arith

@@ -10,7 +10,9 @@ use crate::number;
 use crate::number::Number;
 
 const EQUALS: u8 = b'=';
+
 const COMMA: u8 = b',';
+
 const LINE_FEED: u8 = b'\n';
 
 // What stands behind a field where so many more follow.
@@ -119,7 +121,14 @@ fn take_fields(text: &[u8], at: usize, width: usize, words: &mut [u64], place: u
 }
 
 // Stores the fields of the line at `at`, which is known to be there, in `words` from `place` on, and answers the offset behind it.
-pub fn take_line(text: &[u8], at: usize, key: &[u8], width: usize, words: &mut [u64], place: usize) -> usize
+pub fn take_line(
+    text: &[u8],
+    at: usize,
+    key: &[u8],
+    width: usize,
+    words: &mut [u64],
+    place: usize,
+) -> usize
     requires { ⌜ (line (now key) width (drop at (now text)) ≢ missing) × (place + width ≤ length (now words)) ⌝ }
     ensures { λ r. ⌜ Taken (now (text .entry)) (line (now (key .entry)) width (drop at (now (text .entry)))) (now (words .entry)) place r (now (words .exit)) ⌝ }
 {
@@ -143,7 +152,14 @@ fn fields_size(words: &[u64], from: usize, width: usize, before: usize, cap: usi
 }
 
 // Adds the bytes of a line with a key of so many bytes and the fields from `from` on to a size, up to the cap.
-pub fn line_size(key: &[u8], words: &[u64], from: usize, width: usize, before: usize, cap: usize) -> usize
+pub fn line_size(
+    key: &[u8],
+    words: &[u64],
+    from: usize,
+    width: usize,
+    before: usize,
+    cap: usize,
+) -> usize
     requires { ⌜ (from + width ≤ length (now words)) × (before ≤ cap) ⌝ }
     ensures { λ r. ⌜ Sized before (lineText (now (key .entry)) (take width (drop from (now (words .entry))))) cap r ⌝ }
 {
@@ -185,7 +201,14 @@ fn put_fields(words: &[u64], from: usize, width: usize, out: &mut [u8], at: usiz
 }
 
 // Writes the line of a key and so many fields from `from` on at `at`, and answers the place behind it.
-pub fn put_line(key: &[u8], words: &[u64], from: usize, width: usize, out: &mut [u8], at: usize) -> usize
+pub fn put_line(
+    key: &[u8],
+    words: &[u64],
+    from: usize,
+    width: usize,
+    out: &mut [u8],
+    at: usize,
+) -> usize
     requires { ⌜ (from + width ≤ length (now words)) × (at + length (lineText (now key) (take width (drop from (now words)))) ≤ length (now out)) ⌝ }
     ensures { λ r. ⌜ Put (now (out .entry)) at (lineText (now (key .entry)) (take width (drop from (now (words .entry))))) r (now (out .exit)) ⌝ }
 {

@@ -7,7 +7,9 @@ ghost use Rattle.text.specs.Numbers.{isDigit, digitOf, digitsOn, number,
 ghost use Rattle.text.specs.Places.{NumberAt, Put};
 
 const ZERO: u8 = b'0';
+
 const NINE: u8 = b'9';
+
 const BASE: u64 = 10;
 
 // A number that was read, and the offset behind it; both are 0 where there is none.
@@ -75,7 +77,10 @@ pub fn number_at(text: &[u8], at: usize) -> Number
         return Number { value: 0, next: 0 };
     }
     if byte == ZERO {
-        return Number { value: 0, next: at + 1 };
+        return Number {
+            value: 0,
+            next: at + 1,
+        };
     }
     digits_on(text, at + 1, digit_of(byte))
 }

@@ -18,14 +18,14 @@ use Rattle.division.proofs.check.Tie as tie
 
 -- after the looks at COUNT the number is that of the sizes
 by-number : (c : tie.After-size-refusal)
-  → checkRefusal (c .before .before .before .before .before .before .args .pot) (c .before .before .before .before .before .before .args .weights .now)
+    → checkRefusal (c .before .before .before .before .before .before .args .pot) (c .before .before .before .before .before .before .args .weights .now)
     (c .before .before .before .before .before .before .args .amounts .now)
     ≡ c .size-refusal .result
 by-number c =
     let a = c .before .before .before .before .before .before .args in
     by-size (a .pot) (a .weights .now) (a .amounts .now) (c .before .before .before .if1 .left) (c .before .before .if2 .left)
     ∙ number-is (a .pot) (a .weights .now) (c .before .sum-capped .result) (c .size-refusal .result)
-      (c .before .sum-capped .ensures) (c .size-refusal .ensures)
+    (c .before .sum-capped .ensures) (c .size-refusal .ensures)
 
 -- a pot that is not refused is within its limit
 pot-fits : (c : tie.Else3) → c .before .before .before .before .before .before .before .args .pot ≤ potLimit
@@ -70,16 +70,19 @@ returns-4 c =
     sym
     (said (a .pot) (a .weights .now) (a .amounts .now) (by-number (c .before .before .before) ∙ c .before .before .if3 .left)
     ∙ ap (λ t. cond t Yes No)
-      (wrong-sum (a .pot) (a .weights .now) (a .amounts .now)
-        (capped-other (a .pot) (total (a .amounts .now)) (c .before .sum-capped2 .result) (pot-fits (c .before .before)) (c .before .sum-capped2 .ensures) (c .if4 .taken))))
+    (wrong-sum (a .pot) (a .weights .now) (a .amounts .now)
+    (capped-other (a .pot) (total (a .amounts .now)) (c .before .sum-capped2 .result) (pot-fits (c .before .before)) (c .before .sum-capped2 .ensures) (c .if4 .taken))))
 
 is-level-requires : tie.Need-is-level-requires
 is-level-requires c κs =
     let a = c .before .before .before .before .before .before .before .before .before .args in
-    let size : sizeRefusal (a .pot) (c .before .before .before .before .sum-capped .result) ≡ 0 = sym (c .before .before .before .size-refusal .ensures) ∙ c .before .before .if3 .left in
-    ((sum-is (a .pot) (a .weights .now) (c .before .before .before .before .sum-capped .result) (c .before .before .before .before .sum-capped .ensures) size, size)
-    , (sym (c .before .before .before .before .before .if2 .left)
-      , capped-pot (a .pot) (total (a .amounts .now)) (c .before .sum-capped2 .result) (pot-fits (c .before .before)) (c .before .sum-capped2 .ensures) (c .if4 .left)))
+    let size : sizeRefusal (a .pot) (c .before .before .before .before .sum-capped .result) ≡ 0 = sym (c .before .before .before .size-refusal .ensures) ∙ c .before .before .if3 .left in (
+      (sum-is (a .pot) (a .weights .now) (c .before .before .before .before .sum-capped .result) (c .before .before .before .before .sum-capped .ensures) size, size),
+      (
+        sym (c .before .before .before .before .before .if2 .left),
+        capped-pot (a .pot) (total (a .amounts .now)) (c .before .sum-capped2 .result) (pot-fits (c .before .before)) (c .before .sum-capped2 .ensures) (c .if4 .left),
+      ),
+    )
 
 returns-5 : tie.Need-returns-5
 returns-5 c =
@@ -87,9 +90,9 @@ returns-5 c =
     sym
     (said (a .pot) (a .weights .now) (a .amounts .now) (by-number (c .before .before .before .before .before) ∙ c .before .before .before .before .if3 .left)
     ∙ ap (λ t. cond t Yes No)
-      (right-sum (a .pot) (a .weights .now) (a .amounts .now)
-        (capped-pot (a .pot) (total (a .amounts .now)) (c .before .before .before .sum-capped2 .result) (pot-fits (c .before .before .before .before)) (c .before .before .before .sum-capped2 .ensures) (c .before .before .if4 .left))
-      ∙ sym (c .before .is-level .ensures) ∙ c .if5 .taken))
+    (right-sum (a .pot) (a .weights .now) (a .amounts .now)
+    (capped-pot (a .pot) (total (a .amounts .now)) (c .before .before .before .sum-capped2 .result) (pot-fits (c .before .before .before .before)) (c .before .before .before .sum-capped2 .ensures) (c .before .before .if4 .left))
+    ∙ sym (c .before .is-level .ensures) ∙ c .if5 .taken))
 
 returns-6 : tie.Need-returns-6
 returns-6 c =
@@ -97,9 +100,9 @@ returns-6 c =
     sym
     (said (a .pot) (a .weights .now) (a .amounts .now) (by-number (c .before .before .before .before .before) ∙ c .before .before .before .before .if3 .left)
     ∙ ap (λ t. cond t Yes No)
-      (right-sum (a .pot) (a .weights .now) (a .amounts .now)
-        (capped-pot (a .pot) (total (a .amounts .now)) (c .before .before .before .sum-capped2 .result) (pot-fits (c .before .before .before .before)) (c .before .before .before .sum-capped2 .ensures) (c .before .before .if4 .left))
-      ∙ sym (c .before .is-level .ensures) ∙ c .if5 .left))
+    (right-sum (a .pot) (a .weights .now) (a .amounts .now)
+    (capped-pot (a .pot) (total (a .amounts .now)) (c .before .before .before .sum-capped2 .result) (pot-fits (c .before .before .before .before)) (c .before .before .before .sum-capped2 .ensures) (c .before .before .if4 .left))
+    ∙ sym (c .before .is-level .ensures) ∙ c .if5 .left))
 
 pub check-spec : {M : Type 1} → statement M
 check-spec =

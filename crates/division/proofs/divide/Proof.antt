@@ -11,14 +11,14 @@ use Rattle.division.proofs.divide.Tie as tie
 
 -- after the looks at COUNT and ROOM the number is that of the sizes
 by-number : (c : tie.After-size-refusal)
-  → divideRefusal (c .before .before .before .before .before .before .args .pot) (c .before .before .before .before .before .before .args .weights .now)
+    → divideRefusal (c .before .before .before .before .before .before .args .pot) (c .before .before .before .before .before .before .args .weights .now)
     (length (c .before .before .before .before .before .before .args .out .now))
     ≡ c .size-refusal .result
 by-number c =
     let a = c .before .before .before .before .before .before .args in
     by-size (a .pot) (a .weights .now) (length (a .out .now)) (c .before .before .before .if1 .left) (c .before .before .if2 .left)
     ∙ number-is (a .pot) (a .weights .now) (c .before .sum-capped .result) (c .size-refusal .result)
-      (c .before .sum-capped .ensures) (c .size-refusal .ensures)
+    (c .before .sum-capped .ensures) (c .size-refusal .ensures)
 
 answered-requires : tie.Need-answered-requires
 answered-requires c κs = search needs
@@ -60,9 +60,10 @@ share-out-requires : tie.Need-share-out-requires
 share-out-requires c κs =
     let a = c .before .before .before .before .before .before .before .before .args in
     let size : sizeRefusal (a .pot) (c .before .before .before .sum-capped .result) ≡ 0 =
-          sym (c .before .before .size-refusal .ensures) ∙ c .before .if3 .left in
-    ((sum-is (a .pot) (a .weights .now) (c .before .before .before .sum-capped .result) (c .before .before .before .sum-capped .ensures) size, size)
-    , (c .before .before .before .before .before .if1 .left, c .before .before .before .before .if2 .left))
+    sym (c .before .before .size-refusal .ensures) ∙ c .before .if3 .left in (
+      (sum-is (a .pot) (a .weights .now) (c .before .before .before .sum-capped .result) (c .before .before .before .sum-capped .ensures) size, size),
+      (c .before .before .before .before .before .if1 .left, c .before .before .before .before .if2 .left),
+    )
 
 answered-requires-4 : tie.Need-answered-requires-4
 answered-requires-4 c κs = search needs

@@ -29,10 +29,11 @@ slice-aggregate-store c = sym (made-long (c .before .before .before .go-through 
 
 store-requires : tie.Need-store-requires
 store-requires c κs =
-    omega
-    (arith
-    , made-long (c .before .before .before .before .go-through .ensures) (c .before .before .if1 .left)
-    , c .before .before .before .before .before .before .before .before .before .before .before .pre .1 .0)
+    omega (
+      arith,
+      made-long (c .before .before .before .before .go-through .ensures) (c .before .before .if1 .left),
+      c .before .before .before .before .before .before .before .before .before .before .before .pre .1 .0,
+    )
 
 same-length : tie.Need-same-length
 same-length c = search needs

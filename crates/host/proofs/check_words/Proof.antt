@@ -17,24 +17,24 @@ use Rattle.host.proofs.check_words.Tie as tie
 
 -- the numbers lent to `check` are the weights' and the amounts'
 loaded-weights : (c : tie.After-load)
-  → take (length (c .before .before .before .before .before .before .args .weights .now) / 8) (c .load .last .1 .0) ≡ numbers (c .before .before .before .before .before .before .args .weights .now)
+    → take (length (c .before .before .before .before .before .before .args .weights .now) / 8) (c .load .last .1 .0) ≡ numbers (c .before .before .before .before .before .before .args .weights .now)
 loaded-weights c =
     let start = c .before .before .before .before .before .before in
     ap (take (length (start .args .weights .now) / 8)) (c .load .ensures)
     ∙ loaded (start .args .weights .now) (start .args .numbers .now) (length (start .args .weights .now) / 8) refl
-      (omega (arith, start .pre .1 .0, start .pre .1 .1))
+    (omega (arith, start .pre .1 .0, start .pre .1 .1))
 
 loaded-amounts : (c : tie.After-load2)
-  → take (length (c .before .before .before .before .before .before .before .before .before .before .args .weights .now) / 8) (c .load2 .last .1 .0) ≡ numbers (c .before .before .before .before .before .before .before .before .before .before .args .amounts .now)
+    → take (length (c .before .before .before .before .before .before .before .before .before .before .args .weights .now) / 8) (c .load2 .last .1 .0) ≡ numbers (c .before .before .before .before .before .before .before .before .before .before .args .amounts .now)
 loaded-amounts c =
     let start = c .before .before .before .before .before .before .before .before .before .before in
     let alike : length (start .args .weights .now) / 8 ≡ length (start .args .amounts .now) / 8 = ap (λ n. n / 8) (sym (start .pre .0 .1)) in
     ap (take (length (start .args .weights .now) / 8)) (c .load2 .ensures ∙ ap (λ n. put n (numberAt (start .args .amounts .now)) (start .args .handed .now)) (sym alike))
     ∙ loaded (start .args .amounts .now) (start .args .handed .now) (length (start .args .weights .now) / 8) alike
-      (omega (arith, start .pre .1 .0, start .pre .1 .2))
+    (omega (arith, start .pre .1 .0, start .pre .1 .2))
 
 checked : (c : tie.After-check)
-  → c .check .result ≡ verdict (c .before .before .before .before .before .before .before .before .before .before .before .before .before .before .before .args .pot) (numbers (c .before .before .before .before .before .before .before .before .before .before .before .before .before .before .before .args .weights .now)) (numbers (c .before .before .before .before .before .before .before .before .before .before .before .before .before .before .before .args .amounts .now))
+    → c .check .result ≡ verdict (c .before .before .before .before .before .before .before .before .before .before .before .before .before .before .before .args .pot) (numbers (c .before .before .before .before .before .before .before .before .before .before .before .before .before .before .before .args .weights .now)) (numbers (c .before .before .before .before .before .before .before .before .before .before .before .before .before .before .before .args .amounts .now))
 checked c =
     c .check .ensures ∙ ap₂ (verdict (c .before .before .before .before .before .before .before .before .before .before .before .before .before .before .before .args .pot)) (loaded-weights (c .before .before .before .before .before .before .before .before .before)) (loaded-amounts (c .before .before .before .before .before))
 
@@ -107,7 +107,7 @@ returns-3 c =
     let in-word : number ≡ number + 256 * 0 = omega arith in
     in-word
     ∙ said (start .args .pot) (start .args .weights .now) (start .args .amounts .now) (start .pre .0 .0) (Refused number)
-      (sym (c .before .verdict .given .1) ∙ checked (c .before .before .before))
+    (sym (c .before .verdict .given .1) ∙ checked (c .before .before .before))
 
 pub check-words-spec : {M : Type 1} → statement M
 check-words-spec =

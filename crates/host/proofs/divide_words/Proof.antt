@@ -20,16 +20,16 @@ use Rattle.host.proofs.divide_words.Tie as tie
 
 -- the numbers lent to `divide` are the weights'
 loaded-at : (c : tie.After-load)
-  → take (length (c .before .before .before .before .before .before .args .weights .now) / 8) (c .load .last .1 .0)
+    → take (length (c .before .before .before .before .before .before .args .weights .now) / 8) (c .load .last .1 .0)
     ≡ numbers (c .before .before .before .before .before .before .args .weights .now)
 loaded-at c =
     let start = c .before .before .before .before .before .before in
     ap (take (length (start .args .weights .now) / 8)) (c .load .ensures)
     ∙ loaded (start .args .weights .now) (start .args .numbers .now) (length (start .args .weights .now) / 8) refl
-      (omega (arith, start .pre .1 .0, start .pre .1 .1))
+    (omega (arith, start .pre .1 .0, start .pre .1 .1))
 
 made : (c : tie.After-divide)
-  → Divided (c .before .before .before .before .before .before .before .before .before .before .before .before .args .pot)
+    → Divided (c .before .before .before .before .before .before .before .before .before .before .before .before .args .pot)
     (numbers (c .before .before .before .before .before .before .before .before .before .before .before .before .args .weights .now))
     (take (c .before .before .before .at-most .result) (c .before .before .before .before .before .before .before .before .before .before .before .before .args .shares .now))
     (c .divide .last .1 .1 .0) (c .divide .result)
@@ -39,7 +39,7 @@ made c =
     (loaded-at (c .before .before .before .before .before .before)) (c .divide .ensures)
 
 room-long : (c : tie.After-divide)
-  → length (take (c .before .before .before .at-most .result) (c .before .before .before .before .before .before .before .before .before .before .before .before .args .shares .now))
+    → length (take (c .before .before .before .at-most .result) (c .before .before .before .before .before .before .before .before .before .before .before .before .args .shares .now))
     ≡ c .before .before .before .at-most .result
 room-long c =
     let start = c .before .before .before .before .before .before .before .before .before .before .before .before in
@@ -48,10 +48,10 @@ room-long c =
 
 -- the first of the working words are the shares
 first-shares : (c : tie.After-divide) → c .divide .result .answer .number ≡ 0
-  → take (length (c .before .before .before .before .before .before .before .before .before .before .before .before .args .weights .now) / 8)
+    → take (length (c .before .before .before .before .before .before .before .before .before .before .before .before .args .weights .now) / 8)
     (c .divide .last .1 .1 .0 ++ drop (c .before .before .before .at-most .result) (c .before .before .before .before .before .before .before .before .before .before .before .before .args .shares .now))
     ≡ shares (c .before .before .before .before .before .before .before .before .before .before .before .before .args .pot)
-      (numbers (c .before .before .before .before .before .before .before .before .before .before .before .before .args .weights .now))
+    (numbers (c .before .before .before .before .before .before .before .before .before .before .before .before .args .weights .now))
 first-shares c e =
     let start = c .before .before .before .before .before .before .before .before .before .before .before .before in
     shares-first _ _ _ (start .pre .0) (start .pre .1 .0) _ (c .before .before .before .at-most .ensures) _ _ (room-long c) _ (made c) e
@@ -67,7 +67,7 @@ slice-reshare-prefix-divide : tie.Need-slice-reshare-prefix-divide
 slice-reshare-prefix-divide c = search needs
 
 shares-long : (c : tie.After-divide) → c .divide .result .answer .number ≡ 0
-  → length (take (length (c .before .before .before .before .before .before .before .before .before .before .before .before .args .weights .now) / 8)
+    → length (take (length (c .before .before .before .before .before .before .before .before .before .before .before .before .args .weights .now) / 8)
     (c .divide .last .1 .1 .0 ++ drop (c .before .before .before .at-most .result) (c .before .before .before .before .before .before .before .before .before .before .before .before .args .shares .now)))
     ≡ length (c .before .before .before .before .before .before .before .before .before .before .before .before .args .weights .now) / 8
 shares-long c e =

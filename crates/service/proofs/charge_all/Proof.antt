@@ -9,9 +9,9 @@ use Rattle.service.proofs.charge_all.Tie as tie
 
 -- the lent list of non-zone parts is that of the service that the lent lists are
 parts-of : (c : tie.Start)
-  → c .args .nonzoneparts .now
+    → c .args .nonzoneparts .now
     ≡ nonzoneParts
-      (serviceOf (c .args .pots .now) (c .args .numbers .now) (c .args .zoneparts .now) (c .args .nonzoneparts .now) (c .args .zones .now))
+    (serviceOf (c .args .pots .now) (c .args .numbers .now) (c .args .zoneparts .now) (c .args .nonzoneparts .now) (c .args .zones .now))
 parts-of c = parts-are _ _ (c .pre .0 .both-parts) refl
 
 charge-zones-requires : tie.Need-charge-zones-requires

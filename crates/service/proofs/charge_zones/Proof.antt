@@ -12,7 +12,15 @@ use Rattle.groups.proofs.Summing.{summed-room}
 use Rattle.service.specs.Service.{Service, serviceOf, uses, zoneUse, nonzoneUse}
 use Rattle.service.specs.Steps.{Charged}
 use Rattle.service.proofs.Charging.{
-  Zone, zone-by-uses, uses-are, charged-none, nonzone-fits, nonzone-next, charged-more, charged-stop, charged-all
+  Zone,
+  zone-by-uses,
+  uses-are,
+  charged-none,
+  nonzone-fits,
+  nonzone-next,
+  charged-more,
+  charged-stop,
+  charged-all,
 }
 use Rattle.service.proofs.charge_zones.Statement.{statement}
 use Rattle.service.proofs.charge_zones.Tie as tie
@@ -36,7 +44,7 @@ start-of c = c .before .before .before .before .before .before .before .before .
 
 -- the zone at hand
 one-zone : (c : tie.After-charge-zone Inv-loop μ-loop)
-  → Zone (lent (start-of c)) (start-of c .args .place) (c .before .before .before .before .before .loop .z)
+    → Zone (lent (start-of c)) (start-of c .args .place) (c .before .before .before .before .before .loop .z)
     (c .before .before .before .before .before .loop .column) (c .charge-zone .last .1 .1 .1 .1 .1 .1 .0) (c .charge-zone .result)
 unfolding weightsIn
 one-zone c =
@@ -51,12 +59,13 @@ sum-requires-2 c κs = search needs
 loop-holds : tie.Need-loop-holds Inv-loop μ-loop
 unfolding zoneUse nonzoneUse
 loop-holds c =
-    let start = c .before .before .before .before .before .before .before .before in
-    (omega arith
-    , refl
-    , charged-none (lent start) _ (start .pre .1 .0)
-    , uses-are (lent start) _ _ (c .before .sum .ensures)
-      (c .sum2 .ensures ∙ ap (λ n. sumTo n (at (start .args .nonzoneparts .now))) (start .pre .0 .both-parts)))
+    let start = c .before .before .before .before .before .before .before .before in (
+      omega arith,
+      refl,
+      charged-none (lent start) _ (start .pre .1 .0),
+      uses-are (lent start) _ _ (c .before .sum .ensures)
+          (c .sum2 .ensures ∙ ap (λ n. sumTo n (at (start .args .nonzoneparts .now))) (start .pre .0 .both-parts)),
+    )
 
 mul-charge-zone : tie.Need-mul-charge-zone Inv-loop μ-loop
 mul-charge-zone c = search needs
@@ -78,9 +87,10 @@ add-charge-zone c = search needs
 
 charge-zone-requires : tie.Need-charge-zone-requires Inv-loop μ-loop
 charge-zone-requires c κs =
-    let pre = c .before .before .before .before .before .before .before .before .before .before .before .before .before .pre in
-    (summed-room (c .before .before .before .before .loop .inv .2 .summed) (omega (arith, pre .0 .together .few-groups))
-    , (pre .0 .together .group-each, omega (arith, pre .1 .1)))
+    let pre = c .before .before .before .before .before .before .before .before .before .before .before .before .before .pre in (
+      summed-room (c .before .before .before .before .loop .inv .2 .summed) (omega (arith, pre .0 .together .few-groups)),
+      (pre .0 .together .group-each, omega (arith, pre .1 .1)),
+    )
 
 same-length : tie.Need-same-length Inv-loop μ-loop
 same-length c = search needs
@@ -94,11 +104,12 @@ add-sides : tie.Need-add-sides Inv-loop μ-loop
 add-sides c =
     let l = c .before .before .before .before .before .before .before .before .before .loop in
     let charged = c .before .before .before .before in
-    omega
-    (arith
-    , nonzone-fits (l .inv .2)
-    , nonzone-next (l .inv .2) _ _ _ (one-zone charged) (c .before .if1 .left)
-    , start-of charged .pre .0 .together .few-groups)
+    omega (
+      arith,
+      nonzone-fits (l .inv .2),
+      nonzone-next (l .inv .2) _ _ _ (one-zone charged) (c .before .if1 .left),
+      start-of charged .pre .0 .together .few-groups,
+    )
 
 add-z : tie.Need-add-z Inv-loop μ-loop
 add-z c = search needs
@@ -108,11 +119,12 @@ loop-less c = search needs
 
 loop-again : tie.Need-loop-again Inv-loop μ-loop
 loop-again c =
-    let l = c .before .before .before .before .before .before .before .before .before .loop in
-    (omega arith
-    , c .before .before .before .before .charge-zone .kept .1 .1 .1 .1 .1 .1 .0 ∙ l .inv .1
-    , charged-more (l .inv .2) _ _ _ (one-zone (c .before .before .before .before)) (c .before .if1 .left)
-    , l .inv .3)
+    let l = c .before .before .before .before .before .before .before .before .before .loop in (
+      omega arith,
+      c .before .before .before .before .charge-zone .kept .1 .1 .1 .1 .1 .1 .0 ∙ l .inv .1,
+      charged-more (l .inv .2) _ _ _ (one-zone (c .before .before .before .before)) (c .before .if1 .left),
+      l .inv .3,
+    )
 
 refused-requires : tie.Need-refused-requires Inv-loop μ-loop
 refused-requires c κs = search needs

@@ -27,7 +27,7 @@ returns c =
     record {
       number = number-by-size made (lit≤ tt) (lit≤ tt);
       zone-side = λ e. share-written made (lit≤ tt) (lit≤ tt) e 0 (lit< tt);
-      nonzone-side = λ e. share-written made (lit≤ tt) (lit≤ tt) e 1 (lit< tt)
+      nonzone-side = λ e. share-written made (lit≤ tt) (lit≤ tt) e 1 (lit< tt);
     }
 
 pub split-spec : {M : Type 1} → statement M

@@ -73,9 +73,10 @@ shared-slice-read-quotients-4 c = search needs
 quotients-requires : tie.Need-quotients-requires
 quotients-requires c κs =
     let start = c .before .before .before .before .before .before .before in
-    let base = start .pre .0 in
-    ((base .pot-fits, base .positive, base .whole-fits)
-    , (weight start (start .args .i) (search needs), weight start (start .args .i + 1) (search needs), weight start (start .args .i + 2) (search needs), weight start (start .args .i + 3) (search needs)))
+    let base = start .pre .0 in (
+      (base .pot-fits, base .positive, base .whole-fits),
+      (weight start (start .args .i) (search needs), weight start (start .args .i + 1) (search needs), weight start (start .args .i + 2) (search needs), weight start (start .args .i + 3) (search needs)),
+    )
 
 mul-out : tie.Need-mul-out
 mul-out c = search needs

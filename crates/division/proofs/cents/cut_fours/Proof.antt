@@ -27,10 +27,13 @@ cut-four-requires : tie.Need-cut-four-requires Inv-loop μ-loop
 cut-four-requires c κs =
     let start = c .before .before .before .before .before .before .before in
     let l = c .before .before .before .loop in
-    let room = start .pre .1 in
-    (start .pre .0
-    , (record { few = room .few; cents-room = omega (arith, room .cents-room, l .inv .1); keys-room = omega (arith, room .keys-room, l .inv .2) }
-    , search needs))
+    let room = start .pre .1 in (
+      start .pre .0,
+      (
+        record { few = room .few; cents-room = omega (arith, room .cents-room, l .inv .1); keys-room = omega (arith, room .keys-room, l .inv .2) },
+        search needs,
+      ),
+    )
 
 add-given : tie.Need-add-given Inv-loop μ-loop
 add-given c =
@@ -49,11 +52,12 @@ loop-again : tie.Need-loop-again Inv-loop μ-loop
 loop-again c =
     let a = c .before .before .before .before .before .before .before .before .before .before .before .before .args in
     let l = c .before .before .before .before .before .before .before .before .loop in
-    let four = c .before .before .before .before .cut-four in
-    (search needs
-    , four .kept .1 .1 .1 .1 .0 ∙ l .inv .1
-    , four .kept .1 .1 .1 .1 .1 .0 ∙ l .inv .2
-    , cut-to (a .pot) (a .weights .now) (a .whole) (omega arith) (cut-on (a .pot) (a .weights .now) (a .whole) (l .inv .3) (four .ensures)))
+    let four = c .before .before .before .before .cut-four in (
+      search needs,
+      four .kept .1 .1 .1 .1 .0 ∙ l .inv .1,
+      four .kept .1 .1 .1 .1 .1 .0 ∙ l .inv .2,
+      cut-to (a .pot) (a .weights .now) (a .whole) (omega arith) (cut-on (a .pot) (a .weights .now) (a .whole) (l .inv .3) (four .ensures)),
+    )
 
 same-length : tie.Need-same-length Inv-loop μ-loop
 same-length c = c .before .loop .inv .1

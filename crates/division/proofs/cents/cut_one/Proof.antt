@@ -17,11 +17,12 @@ shared-slice-read-quotient c = search needs
 quotient-requires : tie.Need-quotient-requires
 quotient-requires c κs =
     let start = c .before .before .before .before in
-    let base = start .pre .0 in
-    (base .pot-fits
-    , weight-fits (start .args .pot) (start .args .weights .now) (start .args .whole) base (start .args .i) (start .pre .1 .1)
-    , base .positive
-    , base .whole-fits)
+    let base = start .pre .0 in (
+      base .pot-fits,
+      weight-fits (start .args .pot) (start .args .weights .now) (start .args .whole) base (start .args .i) (start .pre .1 .1),
+      base .positive,
+      base .whole-fits,
+    )
 
 mul-out : tie.Need-mul-out
 mul-out c = search needs
@@ -31,9 +32,10 @@ slice-write-out c = search needs
 
 key-requires : tie.Need-key-requires
 key-requires c κs =
-    let start = c .before .before .before .before .before in
-    (part-fits (start .args .pot) (start .args .weights .now) (start .args .whole) (start .pre .0) (start .args .i) _ _ (start .pre .1 .1) (c .quotient .ensures) .1
-    , omega (arith, start .pre .1 .0 .few, start .pre .1 .1))
+    let start = c .before .before .before .before .before in (
+      part-fits (start .args .pot) (start .args .weights .now) (start .args .whole) (start .pre .0) (start .args .i) _ _ (start .pre .1 .1) (c .quotient .ensures) .1,
+      omega (arith, start .pre .1 .0 .few, start .pre .1 .1),
+    )
 
 mul-keys : tie.Need-mul-keys
 mul-keys c = search needs

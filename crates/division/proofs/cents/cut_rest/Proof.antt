@@ -24,10 +24,13 @@ cut-one-requires : tie.Need-cut-one-requires Inv-loop μ-loop
 cut-one-requires c κs =
     let start = c .before .before .before .before .before .before .before in
     let l = c .before .before .before .loop in
-    let room = start .pre .1 .0 in
-    (start .pre .0
-    , (record { few = room .few; cents-room = omega (arith, room .cents-room, l .inv .1); keys-room = omega (arith, room .keys-room, l .inv .2) }
-    , search needs))
+    let room = start .pre .1 .0 in (
+      start .pre .0,
+      (
+        record { few = room .few; cents-room = omega (arith, room .cents-room, l .inv .1); keys-room = omega (arith, room .keys-room, l .inv .2) },
+        search needs,
+      ),
+    )
 
 add-given : tie.Need-add-given Inv-loop μ-loop
 add-given c =
@@ -46,11 +49,12 @@ loop-again : tie.Need-loop-again Inv-loop μ-loop
 loop-again c =
     let a = c .before .before .before .before .before .before .before .before .before .before .before .before .args in
     let l = c .before .before .before .before .before .before .before .before .loop in
-    let one = c .before .before .before .before .cut-one in
-    (search needs
-    , one .kept .1 .1 .1 .1 .0 ∙ l .inv .1
-    , one .kept .1 .1 .1 .1 .1 .0 ∙ l .inv .2
-    , cut-on (a .pot) (a .weights .now) (a .whole) (l .inv .3) (one .ensures))
+    let one = c .before .before .before .before .cut-one in (
+      search needs,
+      one .kept .1 .1 .1 .1 .0 ∙ l .inv .1,
+      one .kept .1 .1 .1 .1 .1 .0 ∙ l .inv .2,
+      cut-on (a .pot) (a .weights .now) (a .whole) (l .inv .3) (one .ensures),
+    )
 
 same-length : tie.Need-same-length Inv-loop μ-loop
 same-length c = c .before .loop .inv .1

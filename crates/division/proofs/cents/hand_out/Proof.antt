@@ -83,12 +83,13 @@ loop-again c =
     let key = at (a .keys .now) (l .i) in
     let narrowed = c .before .before .narrowed in
     let word : at (l .out) (l .i) + boolByte (leb (narrowed .result .high) key) ≡ handed (a .left) (a .keys .now) (a .out .now) (l .i) =
-          ap₂ _+_ (same-word (c .before .before .before .before .before))
-          (bit-of (leb (narrowed .result .high) key)
-            ∙ told (a .left) (a .keys .now) key (narrowed .result .low) (narrowed .result .high) (start .pre .1 (l .i) (search needs) .1) (narrowed .ensures)) in
-    (omega arith
-    , ap₂ (λ out w. set out (l .i) w) (l .inv .1) word ∙ sym (put-suc (l .i) (handed (a .left) (a .keys .now) (a .out .now)) (a .out .now))
-    , narrowed .ensures .between)
+    ap₂ _+_ (same-word (c .before .before .before .before .before))
+    (bit-of (leb (narrowed .result .high) key)
+    ∙ told (a .left) (a .keys .now) key (narrowed .result .low) (narrowed .result .high) (start .pre .1 (l .i) (search needs) .1) (narrowed .ensures)) in (
+      omega arith,
+      ap₂ (λ out w. set out (l .i) w) (l .inv .1) word ∙ sym (put-suc (l .i) (handed (a .left) (a .keys .now) (a .out .now)) (a .out .now)),
+      narrowed .ensures .between,
+    )
 
 same-length : tie.Need-same-length Inv-loop μ-loop
 same-length c = out-long (c .before)

@@ -21,7 +21,7 @@ size-of : (c : tie.Start) → Sized (c .args .pot) (total (c .args .weights .now
 size-of c = sized (c .args .pot) (total (c .args .weights .now)) (subst (λ w. sizeRefusal (c .args .pot) w ≡ 0) (c .pre .0 .0) (c .pre .0 .1))
 
 whole-of : (c : tie.Start)
-  → c .args .sum + boolByte (eqb (c .args .sum) 0) ≡ total (c .args .weights .now) + bit (eqb (total (c .args .weights .now)) 0)
+    → c .args .sum + boolByte (eqb (c .args .sum) 0) ≡ total (c .args .weights .now) + bit (eqb (total (c .args .weights .now)) 0)
 whole-of c = ap₂ _+_ (c .pre .0 .0) (bit-of (eqb (c .args .sum) 0) ∙ ap (λ w. bit (eqb w 0)) (c .pre .0 .0))
 
 base-at : (c : tie.Start) → Base (c .args .pot) (c .args .weights .now) (c .args .sum + boolByte (eqb (c .args .sum) 0))
@@ -60,7 +60,7 @@ slice-aggregate-hand-out c =
     let start = c .before .before .before .before .before .before .before .before .before in
     sym
     (placed-long _ _ _ _ _ _ _ _ (size-of start) (whole-of start) (start .pre .1 .0) (start .pre .1 .1) (start .pre .1 .0)
-      (c .before .before .before .before .cut-down .ensures))
+    (c .before .before .before .before .cut-down .ensures))
 
 hand-out-requires : tie.Need-hand-out-requires
 hand-out-requires c κs =

@@ -49,10 +49,11 @@ loop-less c = search needs
 loop-again : tie.Need-loop-again Inv-loop μ-loop
 loop-again c =
     let l = c .before .before .loop in
-    let start = c .before .before .before .args in
-    (search needs
-    , ap₂ _+_ (l .inv .1) (bit-of (ltb (start .key) (at (start .keys .now) (l .i))))
-      ∙ sym (sum-suc (l .i) (test (start .keys .now) (start .key))))
+    let start = c .before .before .before .args in (
+      search needs,
+      ap₂ _+_ (l .inv .1) (bit-of (ltb (start .key) (at (start .keys .now) (l .i))))
+          ∙ sym (sum-suc (l .i) (test (start .keys .now) (start .key))),
+    )
 
 returns : tie.Need-returns Inv-loop μ-loop
 returns c =

@@ -18,20 +18,22 @@ returns-2 c = simp (le-ltb _ _ (c .before .if1 .left), lt-ltb _ _ (c .if2 .taken
 returns-3 : tie.Need-returns-3
 unfolding sizeRefusal
 returns-3 c =
-    simp
-    (le-ltb _ _ (c .before .before .if1 .left)
-    , le-ltb _ _ (c .before .if2 .left)
-    , ne-eqb (c .before .before .before .args .sum) 0 (omega arith)
-    , and-false)
+    simp (
+      le-ltb _ _ (c .before .before .if1 .left),
+      le-ltb _ _ (c .before .if2 .left),
+      ne-eqb (c .before .before .before .args .sum) 0 (omega arith),
+      and-false,
+    )
 
 returns-4 : tie.Need-returns-4
 unfolding sizeRefusal
 returns-4 c =
-    simp
-    (le-ltb _ _ (c .before .before .before .if1 .left)
-    , le-ltb _ _ (c .before .before .if2 .left)
-    , lt-ltb _ _ (c .if4 .taken)
-    , eq-eqb (c .before .before .before .before .args .sum) 0 (omega arith))
+    simp (
+      le-ltb _ _ (c .before .before .before .if1 .left),
+      le-ltb _ _ (c .before .before .if2 .left),
+      lt-ltb _ _ (c .if4 .taken),
+      eq-eqb (c .before .before .before .before .args .sum) 0 (omega arith),
+    )
 
 returns-5 : tie.Need-returns-5
 unfolding sizeRefusal

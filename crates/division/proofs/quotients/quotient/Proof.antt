@@ -21,7 +21,7 @@ wide : (c : tie.Start Inv-loop μ-loop) → Stretch (2 ^ 62 / c .args .whole) (c
 wide c = stretch (c .args .whole) (c .pre .2) (c .pre .3)
 
 steady : (c : tie.In-loop Inv-loop μ-loop)
-  → Steady (c .before .loop .part .cents) (c .before .loop .part .rest)
+    → Steady (c .before .loop .part .cents) (c .before .loop .part .rest)
     (c .before .before .args .pot / 2 ^ (c .before .loop .left - 1) % 2)
     (2 ^ 62 / c .before .before .args .whole * c .before .before .args .weight)
     (2 ^ 62 / c .before .before .args .whole * c .before .before .args .whole)
@@ -31,7 +31,7 @@ steady c =
     (start .args .pot) (c .before .loop .left) (c .before .loop .part .cents) (c .before .loop .part .rest) (start .pre .0) (c .before .loop .inv .1)
 
 all-passed : (c : tie.After-loop Inv-loop μ-loop)
-  → Passed (c .before .before .args .pot) (2 ^ 62 / c .before .before .args .whole * c .before .before .args .weight)
+    → Passed (c .before .before .args .pot) (2 ^ 62 / c .before .before .args .whole * c .before .before .args .weight)
     (2 ^ 62 / c .before .before .args .whole * c .before .before .args .whole) (c .before .loop .part .cents) (c .before .loop .part .rest)
 all-passed c = passed-all (c .before .before .args .pot) (c .before .loop .left) _ _ _ _ (omega arith) (c .before .loop .inv .1)
 
@@ -72,10 +72,11 @@ loop-again c =
 
 settle-requires : tie.Need-settle-requires Inv-loop μ-loop
 settle-requires c κs =
-    let start = c .before .before in
-    (cents-fit (2 ^ 62 / start .args .whole) (start .args .weight) (start .args .whole) (wide start) (start .pre .1)
-      (start .args .pot) (start .args .pot) _ _ (start .pre .0) (le-refl (start .args .pot)) (all-passed c)
-    , wide start .positive)
+    let start = c .before .before in (
+      cents-fit (2 ^ 62 / start .args .whole) (start .args .weight) (start .args .whole) (wide start) (start .pre .1)
+          (start .args .pot) (start .args .pot) _ _ (start .pre .0) (le-refl (start .args .pot)) (all-passed c),
+      wide start .positive,
+    )
 
 returns : tie.Need-returns Inv-loop μ-loop
 returns c =

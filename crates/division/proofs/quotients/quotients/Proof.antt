@@ -30,9 +30,9 @@ gain-fits c weight part = omega (arith, wide c .fits, mul-le-mul-left (2 ^ 62 / 
 
 -- each of the four may take a step ..
 steady : (c : tie.In-loop Inv-loop μ-loop) (weight cents rest : ℕ) → weight ≤ c .before .before .args .whole
-  → Passed (c .before .before .args .pot / 2 ^ c .before .loop .left)
+    → Passed (c .before .before .args .pot / 2 ^ c .before .loop .left)
     (2 ^ 62 / c .before .before .args .whole * weight) (2 ^ 62 / c .before .before .args .whole * c .before .before .args .whole) cents rest
-  → Steady cents rest
+    → Steady cents rest
     (c .before .before .args .pot / 2 ^ (c .before .loop .left - 1) % 2) (2 ^ 62 / c .before .before .args .whole * weight)
     (2 ^ 62 / c .before .before .args .whole * c .before .before .args .whole)
 steady c weight cents rest part passed =
@@ -42,26 +42,27 @@ steady c weight cents rest part passed =
 
 -- .. and after the last settles on its quotient
 module _ (c : tie.After-loop Inv-loop μ-loop) (weight cents rest : ℕ) (part : weight ≤ c .before .before .args .whole)
-  (passed : Passed (c .before .before .args .pot / 2 ^ c .before .loop .left)
+    (passed : Passed (c .before .before .args .pot / 2 ^ c .before .loop .left)
     (2 ^ 62 / c .before .before .args .whole * weight) (2 ^ 62 / c .before .before .args .whole * c .before .before .args .whole) cents rest)
   where
-  all : Passed (c .before .before .args .pot)
-    (2 ^ 62 / c .before .before .args .whole * weight) (2 ^ 62 / c .before .before .args .whole * c .before .before .args .whole) cents rest
-  all = passed-all (c .before .before .args .pot) (c .before .loop .left) _ _ _ _ (omega arith) passed
+    all : Passed (c .before .before .args .pot)
+        (2 ^ 62 / c .before .before .args .whole * weight) (2 ^ 62 / c .before .before .args .whole * c .before .before .args .whole) cents rest
+    all = passed-all (c .before .before .args .pot) (c .before .loop .left) _ _ _ _ (omega arith) passed
 
-  last : (cents ≤ potLimit) × (0 < 2 ^ 62 / c .before .before .args .whole)
-  last =
-      let start = c .before .before in
-      (cents-fit (2 ^ 62 / start .args .whole) weight (start .args .whole) (wide start) part
-        (start .args .pot) (start .args .pot) cents rest (start .pre .0 .0) (le-refl (start .args .pot)) all
-      , wide start .positive)
+    last : (cents ≤ potLimit) × (0 < 2 ^ 62 / c .before .before .args .whole)
+    last =
+        let start = c .before .before in (
+          cents-fit (2 ^ 62 / start .args .whole) weight (start .args .whole) (wide start) part
+              (start .args .pot) (start .args .pot) cents rest (start .pre .0 .0) (le-refl (start .args .pot)) all,
+          wide start .positive,
+        )
 
-  quotient : (cents′ rest′ : ℕ) → Settled cents (rest / (2 ^ 62 / c .before .before .args .whole)) (c .before .before .args .whole) cents′ rest′
-    → Quotient (c .before .before .args .pot) weight (c .before .before .args .whole) cents′ rest′
-  quotient cents′ rest′ settled =
-      let start = c .before .before in
-      quotient-is (2 ^ 62 / start .args .whole) weight (start .args .whole) (wide start) part
-      (start .args .pot) cents rest all cents′ rest′ (start .pre .0 .2) settled
+    quotient : (cents′ rest′ : ℕ) → Settled cents (rest / (2 ^ 62 / c .before .before .args .whole)) (c .before .before .args .whole) cents′ rest′
+        → Quotient (c .before .before .args .pot) weight (c .before .before .args .whole) cents′ rest′
+    quotient cents′ rest′ settled =
+        let start = c .before .before in
+        quotient-is (2 ^ 62 / start .args .whole) weight (start .args .whole) (wide start) part
+        (start .args .pot) cents rest all cents′ rest′ (start .pre .0 .2) settled
 
 div-factor : tie.Need-div-factor Inv-loop μ-loop
 div-factor c = search needs
@@ -117,12 +118,13 @@ loop-again : tie.Need-loop-again Inv-loop μ-loop
 loop-again c =
     let turn = c .before .before .before .before in
     let pot = turn .before .before .args .pot in
-    let l = turn .before .loop in
-    (omega arith
-    , passed-more pot (l .left) _ _ _ _ _ _ (turn .loop-test .taken) (l .inv .1) (c .before .before .before .step .ensures)
-    , passed-more pot (l .left) _ _ _ _ _ _ (turn .loop-test .taken) (l .inv .2) (c .before .before .step2 .ensures)
-    , passed-more pot (l .left) _ _ _ _ _ _ (turn .loop-test .taken) (l .inv .3) (c .before .step3 .ensures)
-    , passed-more pot (l .left) _ _ _ _ _ _ (turn .loop-test .taken) (l .inv .4) (c .step4 .ensures))
+    let l = turn .before .loop in (
+      omega arith,
+      passed-more pot (l .left) _ _ _ _ _ _ (turn .loop-test .taken) (l .inv .1) (c .before .before .before .step .ensures),
+      passed-more pot (l .left) _ _ _ _ _ _ (turn .loop-test .taken) (l .inv .2) (c .before .before .step2 .ensures),
+      passed-more pot (l .left) _ _ _ _ _ _ (turn .loop-test .taken) (l .inv .3) (c .before .step3 .ensures),
+      passed-more pot (l .left) _ _ _ _ _ _ (turn .loop-test .taken) (l .inv .4) (c .step4 .ensures),
+    )
 
 settle-requires : tie.Need-settle-requires Inv-loop μ-loop
 settle-requires c κs = last c (c .before .before .args .first) _ _ (c .before .before .pre .1 .0) (c .before .loop .inv .1)
@@ -145,7 +147,7 @@ returns c =
       at-first = quotient after (start .args .first) _ _ (start .pre .1 .0) (l .inv .1) _ _ (c .before .before .before .settle .ensures);
       at-second = quotient after (start .args .second) _ _ (start .pre .1 .1) (l .inv .2) _ _ (c .before .before .settle2 .ensures);
       at-third = quotient after (start .args .third) _ _ (start .pre .1 .2) (l .inv .3) _ _ (c .before .settle3 .ensures);
-      at-fourth = quotient after (start .args .fourth) _ _ (start .pre .1 .3) (l .inv .4) _ _ (c .settle4 .ensures)
+      at-fourth = quotient after (start .args .fourth) _ _ (start .pre .1 .3) (l .inv .4) _ _ (c .settle4 .ensures);
     }
 
 pub quotients-spec : {M : Type 1} → statement M

@@ -24,9 +24,11 @@ add-t8 c = search needs
 mul-t9 : tie.Need-mul-t9
 mul-t9 c =
     let start = c .before .before .before in
-    omega (arith
-      , added-fits _ _ _ _ _ _ (start .pre) (c .before .masked .ensures)
-      , taken-within _ _ _ _ _ _ (start .pre) (c .before .masked .ensures))
+    omega (
+      arith,
+      added-fits _ _ _ _ _ _ (start .pre) (c .before .masked .ensures),
+      taken-within _ _ _ _ _ _ (start .pre) (c .before .masked .ensures),
+    )
 
 sub-t10 : tie.Need-sub-t10
 sub-t10 c = taken-within _ _ _ _ _ _ (c .before .before .before .pre) (c .before .masked .ensures)

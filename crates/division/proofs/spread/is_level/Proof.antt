@@ -44,9 +44,11 @@ mul-lowest c = omega (arith, size-of (c .before .before) .sum-fits)
 
 loop-holds : tie.Need-loop-holds Inv-loop μ-loop
 loop-holds c =
-    let a = c .before .before .args in
-    (omega arith, sym (most-none (height (a .pot) (a .weights .now) (a .sum) (a .amounts .now)))
-    , sym (least-none (2 * a .sum) (height (a .pot) (a .weights .now) (a .sum) (a .amounts .now))))
+    let a = c .before .before .args in (
+      omega arith,
+      sym (most-none (height (a .pot) (a .weights .now) (a .sum) (a .amounts .now))),
+      sym (least-none (2 * a .sum) (height (a .pot) (a .weights .now) (a .sum) (a .amounts .now))),
+    )
 
 mul-product : tie.Need-mul-product Inv-loop μ-loop
 mul-product c = search needs
@@ -61,9 +63,10 @@ add-product c =
 
 product-requires : tie.Need-product-requires Inv-loop μ-loop
 product-requires c κs =
-    let start = c .before .before .before .before .before in
-    (size-of start .sum-fits
-    , omega (arith, amount-fits start (c .before .before .loop .i) (c .before .loop-test .taken), size-of start .pot-fits))
+    let start = c .before .before .before .before .before in (
+      size-of start .sum-fits,
+      omega (arith, amount-fits start (c .before .before .loop .i) (c .before .loop-test .taken), size-of start .pot-fits),
+    )
 
 mul-product-2 : tie.Need-mul-product-2 Inv-loop μ-loop
 mul-product-2 c = search needs
@@ -73,17 +76,20 @@ shared-slice-read-product-2 c = search needs
 
 product-requires-2 : tie.Need-product-requires-2 Inv-loop μ-loop
 product-requires-2 c κs =
-    let start = c .before .before .before .before .before .before .before in
-    (le-trans (weight-fits start (c .before .before .before .before .loop .i) (c .before .before .before .loop-test .taken)) (size-of start .sum-fits)
-    , omega (arith, size-of start .pot-fits))
+    let start = c .before .before .before .before .before .before .before in (
+      le-trans (weight-fits start (c .before .before .before .before .loop .i) (c .before .before .before .loop-test .taken)) (size-of start .sum-fits),
+      omega (arith, size-of start .pot-fits),
+    )
 
 mul-excess : tie.Need-mul-excess Inv-loop μ-loop
 mul-excess c = omega (arith, size-of (c .before .before .before .before .before .before .before .before) .sum-fits)
 
 excess-requires : tie.Need-excess-requires Inv-loop μ-loop
-excess-requires c κs =
-    (c .before .before .product .ensures .low-fits, c .product2 .ensures .low-fits
-    , omega (arith, size-of (c .before .before .before .before .before .before .before .before) .sum-fits))
+excess-requires c κs = (
+  c .before .before .product .ensures .low-fits,
+  c .product2 .ensures .low-fits,
+  omega (arith, size-of (c .before .before .before .before .before .before .before .before) .sum-fits),
+)
 
 larger-requires : tie.Need-larger-requires Inv-loop μ-loop
 larger-requires c κs = search needs
@@ -103,18 +109,23 @@ loop-again c =
     let l = c .before .before .before .before .before .before .before .before .loop in
     let heights = height (a .pot) (a .weights .now) (a .sum) (a .amounts .now) in
     let is-height : c .before .before .excess .result ≡ heights (l .i) =
-          c .before .before .excess .ensures
-          ∙ ap₂ (λ x y. min (x - y) (2 * a .sum)) (c .before .before .before .before .before .product .ensures .value) (c .before .before .before .product2 .ensures .value) in
-    (omega arith
-    , c .before .larger .ensures ∙ ap₂ max (l .inv .1) is-height ∙ sym (most-suc (l .i) heights)
-    , c .smaller .ensures ∙ ap₂ min (l .inv .2) is-height ∙ sym (least-suc (2 * a .sum) (l .i) heights))
+    c .before .before .excess .ensures
+    ∙ ap₂ (λ x y. min (x - y) (2 * a .sum)) (c .before .before .before .before .before .product .ensures .value) (c .before .before .before .product2 .ensures .value) in (
+      omega arith,
+      c .before .larger .ensures ∙ ap₂ max (l .inv .1) is-height ∙ sym (most-suc (l .i) heights),
+      c .smaller .ensures ∙ ap₂ min (l .inv .2) is-height ∙ sym (least-suc (2 * a .sum) (l .i) heights),
+    )
 
 add-result : tie.Need-add-result Inv-loop μ-loop
 add-result c =
     let start = c .before .before .before .before in
     let l = c .before .loop in
-    omega (arith, size-of start .sum-fits, l .inv .2
-      , least-le (2 * start .args .sum) (l .i) (height (start .args .pot) (start .args .weights .now) (start .args .sum) (start .args .amounts .now)))
+    omega (
+      arith,
+      size-of start .sum-fits,
+      l .inv .2,
+      least-le (2 * start .args .sum) (l .i) (height (start .args .pot) (start .args .weights .now) (start .args .sum) (start .args .amounts .now)),
+    )
 
 returns : tie.Need-returns Inv-loop μ-loop
 returns c =

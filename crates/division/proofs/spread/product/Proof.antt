@@ -9,7 +9,7 @@ use Rattle.division.proofs.spread.product.Tie as tie
 
 -- both parts of the product are far below 2^64
 parts : (factor number : ℕ) → (factor ≤ 10_000_000_000_000) × (number ≤ 100_000_000_001)
-  → (factor * (number / 524288) ≤ 10_000_000_000_000 * 200_000) × (factor * (number % 524288) ≤ 10_000_000_000_000 * 524288)
+    → (factor * (number / 524288) ≤ 10_000_000_000_000 * 200_000) × (factor * (number % 524288) ≤ 10_000_000_000_000 * 524288)
 parts factor number h =
     let high : number / 524288 ≤ 200_000 = omega arith in
     let low : number % 524288 ≤ 524288 = omega arith in

@@ -47,11 +47,12 @@ loop-less c = omega arith
 loop-again : tie.Need-loop-again Inv-loop μ-loop
 loop-again c =
     let a = c .before .before .before .before .before .args in
-    let l = c .before .before .loop in
-    (omega arith
-    , omega (arith, c .before .before .before .before .before .pre .0)
-    , ap₂ (λ k v. set k (l .i) v) (l .inv .2) (c .load-one .ensures ∙ ap (numberFrom (a .bytes .now)) (l .inv .0))
-      ∙ sym (put-suc (l .i) (numberAt (a .bytes .now)) (a .numbers .now)))
+    let l = c .before .before .loop in (
+      omega arith,
+      omega (arith, c .before .before .before .before .before .pre .0),
+      ap₂ (λ k v. set k (l .i) v) (l .inv .2) (c .load-one .ensures ∙ ap (numberFrom (a .bytes .now)) (l .inv .0))
+          ∙ sym (put-suc (l .i) (numberAt (a .bytes .now)) (a .numbers .now)),
+    )
 
 same-length : tie.Need-same-length Inv-loop μ-loop
 same-length c = numbers-long (c .before)

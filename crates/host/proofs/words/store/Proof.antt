@@ -48,13 +48,14 @@ loop-less c = omega arith
 loop-again : tie.Need-loop-again Inv-loop μ-loop
 loop-again c =
     let a = c .before .before .before .before .before .before .before .before .before .args in
-    let l = c .before .before .before .before .before .before .loop in
-    (omega arith
-    , omega arith
-    , c .before .before .store-one .ensures
-      ∙ ap (λ k. storedTo 8 k (l .place) (at (a .numbers .now) (l .i))) (l .inv .2)
-      ∙ stored-on 8 (byteAt (a .numbers .now)) (a .bytes .now) (l .place) (at (a .numbers .now) (l .i))
-        (λ k b. ap (λ p. byteAt (a .numbers .now) (p + k)) (l .inv .1) ∙ byte-at (a .numbers .now) (l .i) k b))
+    let l = c .before .before .before .before .before .before .loop in (
+      omega arith,
+      omega arith,
+      c .before .before .store-one .ensures
+          ∙ ap (λ k. storedTo 8 k (l .place) (at (a .numbers .now) (l .i))) (l .inv .2)
+          ∙ stored-on 8 (byteAt (a .numbers .now)) (a .bytes .now) (l .place) (at (a .numbers .now) (l .i))
+          (λ k b. ap (λ p. byteAt (a .numbers .now) (p + k)) (l .inv .1) ∙ byte-at (a .numbers .now) (l .i) k b),
+    )
 
 same-length : tie.Need-same-length Inv-loop μ-loop
 same-length c = bytes-long (c .before)

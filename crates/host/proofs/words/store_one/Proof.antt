@@ -89,19 +89,19 @@ returns c =
     let a = c .args in
     ap
     (λ l.
-      set
-      (set
-      (set
-      (set
-      (set
-      (set
-      (set l (a .place + 1) (a .number / 256 % 256))
-      (a .place + 2) (a .number / 65536 % 256))
-      (a .place + 3) (a .number / 16777216 % 256))
-      (a .place + 4) (a .number / 4294967296 % 256))
-      (a .place + 5) (a .number / 1099511627776 % 256))
-      (a .place + 6) (a .number / 281474976710656 % 256))
-      (a .place + 7) (a .number / 72057594037927936 % 256))
+    set
+    (set
+    (set
+    (set
+    (set
+    (set
+    (set l (a .place + 1) (a .number / 256 % 256))
+    (a .place + 2) (a .number / 65536 % 256))
+    (a .place + 3) (a .number / 16777216 % 256))
+    (a .place + 4) (a .number / 4294967296 % 256))
+    (a .place + 5) (a .number / 1099511627776 % 256))
+    (a .place + 6) (a .number / 281474976710656 % 256))
+    (a .place + 7) (a .number / 72057594037927936 % 256))
     (first-byte (a .bytes .now) (a .place) (a .number))
 
 pub store-one-spec : {M : Type 1} → statement M

@@ -52,7 +52,7 @@ returns c =
       c .before .before .before .before .before .before .before .unit-service .ensures,
       c .before .before .before .before .before .before .before .before .unit-number .ensures,
       c .before .before .before .before .before .before .before .before .before .unit-zone .ensures,
-      c .before .before .before .before .before .before .before .before .before .before .unit-owner .ensures
+      c .before .before .before .before .before .before .before .before .before .before .unit-owner .ensures,
     )
 
 pub unit-row-spec : {M : Type 1} → statement M

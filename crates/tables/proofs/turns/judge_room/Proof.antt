@@ -36,7 +36,7 @@ unfolding roomFor
 returns c =
     cc (
       places (entry c .args .charges) chargeWidth (entry c .args .accounts / width Accounts) (omega arith),
-      places (entry c .args .credits) creditWidth (entry c .args .owners / width Owners) (omega arith)
+      places (entry c .args .credits) creditWidth (entry c .args .owners / width Owners) (omega arith),
     )
 
 pub judge-room-spec : {M : Type 1} → statement M

@@ -50,9 +50,10 @@ loop-less : tie.Need-loop-less Inv-loop μ-loop
 loop-less c = search needs
 
 loop-again : tie.Need-loop-again Inv-loop μ-loop
-loop-again c =
-    (c .before .before .before .loop .inv .0,
-      (omega arith, first-more _ _ _ (c .before .before .before .loop .inv .1 .1) (sym (c .before .row .ensures) ∙ c .if2 .left)))
+loop-again c = (
+  c .before .before .before .loop .inv .0,
+  (omega arith, first-more _ _ _ (c .before .before .before .loop .inv .1 .1) (sym (c .before .row .ensures) ∙ c .if2 .left)),
+)
 
 returns-3 : tie.Need-returns-3 Inv-loop μ-loop
 returns-3 c =

@@ -45,11 +45,12 @@ loop-less c = search needs
 
 -- src/line.rt:55:5
 loop-again : tie.Need-loop-again Inv-loop μ-loop
-loop-again c =
-    (pos-of-ne-zero (c .if1 .left)
-    , c .before .field-at .ensures .inside
-    , fields-next (c .before .before .before .before .before .args .text .now) _ (c .before .before .before .loop .i) (c .before .before .before .loop .left) (c .before .before .before .loop .inv .2)
-    (c .before .before .loop-test .taken) (c .before .field-at .result) (c .before .field-at .ensures) (c .if1 .left))
+loop-again c = (
+  pos-of-ne-zero (c .if1 .left),
+  c .before .field-at .ensures .inside,
+  fields-next (c .before .before .before .before .before .args .text .now) _ (c .before .before .before .loop .i) (c .before .before .before .loop .left) (c .before .before .before .loop .inv .2)
+      (c .before .before .loop-test .taken) (c .before .field-at .result) (c .before .field-at .ensures) (c .if1 .left),
+)
 
 -- src/line.rt:49:1
 returns-2 : tie.Need-returns-2 Inv-loop μ-loop

@@ -67,9 +67,12 @@ loop-again c =
     let a = c .before .before .before .before .before .before .args in
     let more = length-next (a .words .now) (l .left) (l .next) (c .before .before .before .loop-test .taken) (l .inv .0) in
     let one = c .before .number-size .ensures in
-    let two = c .add-capped .ensures in
-    (omega arith, omega arith, (let q : min (c .add-capped .result + length (fieldsText (take (l .left - 1) (drop (l .next + 1) (a .words .now))))) (a .cap)
-      ≡ min (l .size + length (fieldsText (take (l .left) (drop (l .next) (a .words .now))))) (a .cap) = omega arith in q) ∙ l .inv .2)
+    let two = c .add-capped .ensures in (
+      omega arith,
+      omega arith,
+      (let q : min (c .add-capped .result + length (fieldsText (take (l .left - 1) (drop (l .next + 1) (a .words .now))))) (a .cap)
+          ≡ min (l .size + length (fieldsText (take (l .left) (drop (l .next) (a .words .now))))) (a .cap) = omega arith in q) ∙ l .inv .2,
+    )
 
 -- src/line.rt:130:1
 returns : tie.Need-returns Inv-loop μ-loop
@@ -77,7 +80,7 @@ returns c =
     let l = c .before .loop in
     let a = c .before .before .before .args in
     let none : length (fieldsText (take (l .left) (drop (l .next) (a .words .now)))) ≡ 0 =
-          ap (λ k. length (fieldsText k)) (take-none (drop (l .next) (a .words .now)) (l .left) (c .loop-test .left)) ∙ ap length text-none in
+    ap (λ k. length (fieldsText k)) (take-none (drop (l .next) (a .words .now)) (l .left) (c .loop-test .left)) ∙ ap length text-none in
     record { capped = omega arith }
 
 pub fields-size-spec : {M : Type 1} → statement M

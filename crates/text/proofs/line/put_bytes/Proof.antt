@@ -48,13 +48,14 @@ loop-less c = search needs
 loop-again : tie.Need-loop-again Inv-loop μ-loop
 loop-again c =
     let l = c .before .before .loop in
-    let a = c .before .before .before .args in
-    (omega arith
-    , omega arith
-    , sym (stored-first (l .out) (l .i) _ (drop (l .k + 1) (a .bytes .now)))
-      ∙ ap (stored (l .out) (l .i)) (sym (drop-next (a .bytes .now) (l .k) (c .before .loop-test .taken)))
-      ∙ l .inv .2
-    , length-set (l .out) (l .i) _ ∙ l .inv .3)
+    let a = c .before .before .before .args in (
+      omega arith,
+      omega arith,
+      sym (stored-first (l .out) (l .i) _ (drop (l .k + 1) (a .bytes .now)))
+          ∙ ap (stored (l .out) (l .i)) (sym (drop-next (a .bytes .now) (l .k) (c .before .loop-test .taken)))
+          ∙ l .inv .2,
+      length-set (l .out) (l .i) _ ∙ l .inv .3,
+    )
 
 -- src/line.rt:154:1
 same-length : tie.Need-same-length Inv-loop μ-loop
@@ -70,7 +71,8 @@ returns c =
       written =
           sym (stored-none (l .out) (l .i))
           ∙ ap (stored (l .out) (l .i)) (sym (drop-end (a .bytes .now) (l .k) (c .loop-test .left)))
-          ∙ l .inv .2 }
+          ∙ l .inv .2;
+    }
 
 pub put-bytes-spec : {M : Type 1} → statement M
 put-bytes-spec =

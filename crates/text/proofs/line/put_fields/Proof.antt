@@ -75,13 +75,14 @@ loop-again c =
     let p = c .before .before .before .before .before .before .loop-test .taken in
     let more = length-next (c .before .before .before .before .before .before .before .before .before .before .args .words .now) (c .before .before .before .before .before .before .before .loop .left) (c .before .before .before .before .before .before .before .loop .next) (c .before .before .before .before .before .before .loop-test .taken) (c .before .before .before .before .before .before .before .loop .inv .0) in
     let put = c .before .before .before .put-number in
-    let place = put .ensures .onward in
-    (omega arith
-    , omega arith
-    , put-next (a .words .now) (l .left) (l .next) p (l .inv .0) (l .out) (l .i) (put .result) (c .separator .result) (put .last .1 .0)
-      (put .ensures) (c .separator .ensures)
-      ∙ l .inv .2
-    , length-set (put .last .1 .0) (put .result) (c .separator .result) ∙ put .kept .1 .0 ∙ l .inv .3)
+    let place = put .ensures .onward in (
+      omega arith,
+      omega arith,
+      put-next (a .words .now) (l .left) (l .next) p (l .inv .0) (l .out) (l .i) (put .result) (c .separator .result) (put .last .1 .0)
+          (put .ensures) (c .separator .ensures)
+          ∙ l .inv .2,
+      length-set (put .last .1 .0) (put .result) (c .separator .result) ∙ put .kept .1 .0 ∙ l .inv .3,
+    )
 
 -- src/line.rt:170:1
 same-length : tie.Need-same-length Inv-loop μ-loop
@@ -93,11 +94,12 @@ returns c =
     let l = c .before .loop in
     let a = c .before .before .before .before .args in
     let none : fieldsText (take (l .left) (drop (l .next) (a .words .now))) ≡ [] =
-          ap fieldsText (take-none (drop (l .next) (a .words .now)) (l .left) (c .loop-test .left)) ∙ text-none in
+    ap fieldsText (take-none (drop (l .next) (a .words .now)) (l .left) (c .loop-test .left)) ∙ text-none in
     let none-left : length (fieldsText (take (l .left) (drop (l .next) (a .words .now)))) ≡ 0 = ap length none in
     record {
       onward = omega (arith, l .inv .1);
-      written = sym (stored-none (l .out) (l .i)) ∙ ap (stored (l .out) (l .i)) (sym none) ∙ l .inv .2 }
+      written = sym (stored-none (l .out) (l .i)) ∙ ap (stored (l .out) (l .i)) (sym none) ∙ l .inv .2;
+    }
 
 pub put-fields-spec : {M : Type 1} → statement M
 put-fields-spec =

@@ -28,9 +28,10 @@ add-put-fields c = omega (arith, length-key (c .before .before .before .before .
 -- src/line.rt:194:5
 put-fields-requires : tie.Need-put-fields-requires
 put-fields-requires c κs =
-    let put = c .before .before .before .put-bytes in
-    (c .before .before .before .before .before .before .before .before .pre .0
-    , rw length-set (omega (arith, length-key (c .before .before .before .before .before .before .before .before .args .key .now) (take (c .before .before .before .before .before .before .before .before .args .width) (drop (c .before .before .before .before .before .before .before .before .args .from) (c .before .before .before .before .before .before .before .before .args .words .now))), put .kept .1 .0, put .ensures .onward, c .before .before .before .before .before .before .before .before .pre .1)))
+    let put = c .before .before .before .put-bytes in (
+      c .before .before .before .before .before .before .before .before .pre .0,
+      rw length-set (omega (arith, length-key (c .before .before .before .before .before .before .before .before .args .key .now) (take (c .before .before .before .before .before .before .before .before .args .width) (drop (c .before .before .before .before .before .before .before .before .args .from) (c .before .before .before .before .before .before .before .before .args .words .now))), put .kept .1 .0, put .ensures .onward, c .before .before .before .before .before .before .before .before .pre .1)),
+    )
 
 -- src/line.rt:188:1
 same-length : tie.Need-same-length

@@ -64,13 +64,14 @@ loop-again c =
     let a = c .before .before .before .before .before .args in
     let r = c .field-at .result in
     let e = c .field-at .ensures in
-    let p = c .before .loop-test .taken in
-    (omega arith
-    , e .inside
-    , taken-there (a .text .now) (l .i) (l .left) p (l .inv .2) r e
-    , taken-rest (a .text .now) (l .i) (l .left) p (l .inv .2) r e ∙ l .inv .3
-    , taken-stored (a .text .now) (l .i) (l .left) p (l .inv .2) r e (l .words) (l .store) ∙ l .inv .4
-    , length-set (l .words) (l .store) (r .value) ∙ l .inv .5)
+    let p = c .before .loop-test .taken in (
+      omega arith,
+      e .inside,
+      taken-there (a .text .now) (l .i) (l .left) p (l .inv .2) r e,
+      taken-rest (a .text .now) (l .i) (l .left) p (l .inv .2) r e ∙ l .inv .3,
+      taken-stored (a .text .now) (l .i) (l .left) p (l .inv .2) r e (l .words) (l .store) ∙ l .inv .4,
+      length-set (l .words) (l .store) (r .value) ∙ l .inv .5,
+    )
 
 -- src/line.rt:104:1
 same-length : tie.Need-same-length Inv-loop μ-loop
@@ -82,11 +83,12 @@ returns c =
     let l = c .before .loop in
     let a = c .before .before .before .before .args in
     let done : fields (l .left) (drop (l .i) (a .text .now)) ≡ found [] (drop (l .i) (a .text .now)) =
-          (let z : l .left ≡ 0 = omega arith in ap (λ k. fields k (drop (l .i) (a .text .now))) z) ∙ fields-none (drop (l .i) (a .text .now)) in
+    (let z : l .left ≡ 0 = omega arith in ap (λ k. fields k (drop (l .i) (a .text .now))) z) ∙ fields-none (drop (l .i) (a .text .now)) in
     record {
       inside = l .inv .1;
       behind = sym (l .inv .3) ∙ ap restOf done;
-      written = sym (ap (λ o. stored (l .words) (l .store) (fieldsOf o)) done ∙ stored-none (l .words) (l .store)) ∙ l .inv .4 }
+      written = sym (ap (λ o. stored (l .words) (l .store) (fieldsOf o)) done ∙ stored-none (l .words) (l .store)) ∙ l .inv .4;
+    }
 
 pub take-fields-spec : {M : Type 1} → statement M
 take-fields-spec =

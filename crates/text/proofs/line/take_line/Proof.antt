@@ -38,7 +38,8 @@ returns c =
     record {
       inside = done .inside;
       behind = ap restOf (sym (there .same)) ∙ done .behind;
-      written = done .written ∙ ap (λ o. stored (c .before .before .before .before .before .before .before .args .words .now) (c .before .before .before .before .before .before .before .args .place) (fieldsOf o)) (there .same) }
+      written = done .written ∙ ap (λ o. stored (c .before .before .before .before .before .before .before .args .words .now) (c .before .before .before .before .before .before .before .args .place) (fieldsOf o)) (there .same);
+    }
 
 pub take-line-spec : {M : Type 1} → statement M
 take-line-spec =

@@ -56,7 +56,7 @@ returns-2 c =
     let l = c .before .before .before .before .before .before .loop in
     let one = c .before .digit-of in
     let digit : isDigit (at (c .before .before .before .before .before .before .before .before .args .text .now) (l .i)) ≡ true =
-          sym (c .before .before .before .is-digit .ensures) ∙ not-false (c .before .before .before .is-digit .result) (c .before .before .if1 .left) in
+    sym (c .before .before .before .is-digit .ensures) ∙ not-false (c .before .before .before .is-digit .result) (c .before .before .if1 .left) in
     digits-big (c .before .before .before .before .before .before .before .before .args .text .now) _ (l .value) (l .i) (l .inv .0) (l .inv .1) (c .before .before .before .before .before .loop-test .taken) digit
     (omega (arith, one .ensures .0))
 
@@ -82,14 +82,15 @@ loop-again c =
     let l = c .before .before .before .before .before .before .loop in
     let one = c .before .digit-of in
     let digit : isDigit (at (c .before .before .before .before .before .before .before .before .args .text .now) (l .i)) ≡ true =
-          sym (c .before .before .before .is-digit .ensures) ∙ not-false (c .before .before .before .is-digit .result) (c .before .before .if1 .left) in
+    sym (c .before .before .before .is-digit .ensures) ∙ not-false (c .before .before .before .is-digit .result) (c .before .before .if1 .left) in
     let value : l .value * 10 + one .result ≡ l .value * 10 + digitOf (at (c .before .before .before .before .before .before .before .before .args .text .now) (l .i)) =
-          ap (λ k. l .value * 10 + k) (one .ensures .0) in
-    (digits-next (c .before .before .before .before .before .before .before .before .args .text .now) _ (l .value) (l .i) (l .inv .0) (l .inv .1) (c .before .before .before .before .before .loop-test .taken) digit
-      (omega (arith, one .ensures .0))
-      ∙ ap (λ k. digitsOn k (drop (l .i + 1) (c .before .before .before .before .before .before .before .before .args .text .now))) (sym value)
-    , omega arith
-    , omega (arith, c .before .before .before .before .before .loop-test .taken))
+    ap (λ k. l .value * 10 + k) (one .ensures .0) in (
+      digits-next (c .before .before .before .before .before .before .before .before .args .text .now) _ (l .value) (l .i) (l .inv .0) (l .inv .1) (c .before .before .before .before .before .loop-test .taken) digit
+          (omega (arith, one .ensures .0))
+          ∙ ap (λ k. digitsOn k (drop (l .i + 1) (c .before .before .before .before .before .before .before .before .args .text .now))) (sym value),
+      omega arith,
+      omega (arith, c .before .before .before .before .before .loop-test .taken),
+    )
 
 -- src/number.rt:45:1
 returns-3 : tie.Need-returns-3 Inv-loop μ-loop

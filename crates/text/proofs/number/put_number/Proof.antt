@@ -63,15 +63,16 @@ loop-again c =
     let l = c .before .loop in
     let a = c .before .before .before .before .args in
     let tenth : length (decimal (l .left)) ≡ length (decimal (l .left / 10)) + 1 = length-tenth (l .left) (c .loop-test .taken) (l .inv .1) in
-    let place : l .i - 1 ≡ a .at + length (decimal (l .left / 10)) = omega arith in
-    (place
-    , omega arith
-    , ap (λ k. stored (set (l .out) k (48 + l .left % 10)) (a .at) (decimal (l .left / 10))) place
-      ∙ stored-last (l .out) (a .at) (decimal (l .left / 10)) (48 + l .left % 10)
-      ∙ ap (stored (l .out) (a .at)) (sym (decimal-tenth (l .left) (c .loop-test .taken) (l .inv .1)))
-      ∙ l .inv .2
-    , length-set (l .out) (l .i - 1) (48 + l .left % 10) ∙ l .inv .3
-    , omega arith)
+    let place : l .i - 1 ≡ a .at + length (decimal (l .left / 10)) = omega arith in (
+      place,
+      omega arith,
+      ap (λ k. stored (set (l .out) k (48 + l .left % 10)) (a .at) (decimal (l .left / 10))) place
+          ∙ stored-last (l .out) (a .at) (decimal (l .left / 10)) (48 + l .left % 10)
+          ∙ ap (stored (l .out) (a .at)) (sym (decimal-tenth (l .left) (c .loop-test .taken) (l .inv .1)))
+          ∙ l .inv .2,
+      length-set (l .out) (l .i - 1) (48 + l .left % 10) ∙ l .inv .3,
+      omega arith,
+    )
 
 -- src/number.rt:109:22
 cast-out-2 : tie.Need-cast-out-2 Inv-loop μ-loop
@@ -99,7 +100,8 @@ returns c =
       written =
           sym (stored-one (l .out) (a .at) (48 + l .left))
           ∙ ap (stored (l .out) (a .at)) (sym (decimal-one (l .left) (c .loop-test .left)))
-          ∙ l .inv .2 }
+          ∙ l .inv .2;
+    }
 
 pub put-number-spec : {M : Type 1} → statement M
 put-number-spec =
