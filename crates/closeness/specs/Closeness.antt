@@ -26,7 +26,7 @@ pub record Closest (pot : ℕ) (weights amounts : List ℕ) : Type 0 where
   pub none-closer : (others : List ℕ) → length others ≡ length weights → total others ≡ total amounts
       → squares pot weights amounts ≤ squares pot weights others
 
--- the test that finds them: no amount stands more than a whole cent above its exact share than another does
+-- the test that finds them: no amount stands more than a whole cent higher over its exact share than another
 unfoldable pub level : ℕ → List ℕ → List ℕ → Bool
 level pot weights amounts =
     every (length weights) (λ i. every (length weights) (λ j.

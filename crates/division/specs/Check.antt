@@ -11,7 +11,7 @@ use Rattle.division.specs.declared.Verdict.{Verdict}
 use Rattle.division.specs.declared.Verdict.the-variants.{Yes, No, Refused}
 
 -- the amounts add up to the pot and are level: no amount stands more than a cent higher over its exact share than another
--- (that these are the closest lists, whatever the sum of squares is taken over, is the theorem of `closeness`)
+-- (that these are the closest lists, by the sum of squares, is the theorem of `closeness`)
 unfoldable pub passes : ℕ → List ℕ → List ℕ → Bool
 passes pot weights amounts = eqb (total amounts) pot && level pot weights amounts
 

@@ -1,0 +1,12 @@
+pub mod CaseS
+pub mod RowLaws
+pub mod Forms
+pub mod RowWalks
+pub mod LineWalks
+pub mod Judging
+pub mod Filling
+pub mod Rooms
+pub mod Pieces
+pub mod Contents
+pub mod Promises
+pub mod Unique

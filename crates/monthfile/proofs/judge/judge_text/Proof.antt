@@ -1,0 +1,126 @@
+use mathlib.Core.Path.{_≡_, refl, sym, ap, _∙_}
+use mathlib.Core.Logic.{⊎-elim}
+use Prim.Native.Nat.{ℕ, zero, suc, _≤_, _<_, _+_, _*_, _/_, _%_, _-_, _^_, min}
+use native.Mathlib.Numerals.{add-one}
+use native.Mathlib.Omega.{arith}
+use mathlib.Core.List.{[], _∷_}
+use Rattle.monthfile.proofs.Judging.{judged-heads, judged-tables, counts-small, judged-end, judged-fine}
+use borrow.Author.Needs.{needs}
+use Rattle.monthfile.proofs.judge.judge_text.Statement.{statement}
+use Rattle.monthfile.proofs.judge.judge_text.Tie as tie
+use Rattle.monthfile.proofs.judge.judge_text.Reads as reads
+use Rattle.monthfile.proofs.judge.judge_text.Lts as lts
+use Rattle.monthfile.proofs.judge.found.Reads as found-reads
+use Rattle.monthfile.proofs.judge.judge_end.Reads as judge-end-reads
+use Rattle.monthfile.proofs.judge.judge_heads.Reads as judge-heads-reads
+use Rattle.monthfile.proofs.judge.judge_tables.Reads as judge-tables-reads
+use Rattle.monthfile.proofs.judge.stopped.Reads as stopped-reads
+use Rattle.monthfile.proofs.judge.total_of.Reads as total-of-reads
+
+-- src/judge.rt:245:35
+slice-aggregate-judge-heads : tie.Need-slice-aggregate-judge-heads
+slice-aggregate-judge-heads c = search needs
+
+-- src/judge.rt:245:9
+judge-heads-requires : tie.Need-judge-heads-requires
+judge-heads-requires c κs = search needs
+
+-- src/judge.rt:249:9
+stopped-requires : tie.Need-stopped-requires
+stopped-requires c κs = search needs
+
+-- src/judge.rt:249:9
+returns : tie.Need-returns
+returns c =
+    judged-heads (c .before .before .before .before .before .before .before .before .args .text .now) (0 ∷ 0 ∷ 0 ∷ []) (c .before .before .before .before .before .judge-heads .result) (c .before .before .before .before .before .judge-heads .last .1 .0) (c .before .before .before .before .before .judge-heads .ensures)
+    (c .before .if1 .taken) (c .stopped .result .held) (c .stopped .result .body) (c .stopped .ensures)
+
+-- src/judge.rt:251:43
+slice-aggregate-judge-tables : tie.Need-slice-aggregate-judge-tables
+slice-aggregate-judge-tables c = search needs
+
+-- src/judge.rt:251:9
+judge-tables-requires : tie.Need-judge-tables-requires
+judge-tables-requires c κs = search needs
+
+-- src/judge.rt:255:9
+stopped-requires-2 : tie.Need-stopped-requires-2
+stopped-requires-2 c κs = search needs
+
+-- src/judge.rt:255:9
+returns-2 : tie.Need-returns-2
+returns-2 c =
+    judged-tables (c .before .before .before .before .before .before .before .before .before .before .before .before .before .before .args .text .now) (0 ∷ 0 ∷ 0 ∷ []) (c .before .before .before .before .before .before .before .before .before .before .before .judge-heads .result) (c .before .before .before .before .before .before .before .before .before .before .before .judge-heads .last .1 .0) (c .before .before .before .before .before .before .before .before .before .before .before .judge-heads .ensures)
+    (c .before .before .before .before .before .before .before .if1 .left) (0 ∷ 0 ∷ 0 ∷ 0 ∷ 0 ∷ 0 ∷ []) (c .before .before .before .before .before .judge-tables .result) (c .before .before .before .before .before .judge-tables .last .1 .1 .0) (c .before .before .before .before .before .judge-tables .ensures)
+    (c .before .if2 .taken) (c .stopped2 .result .held) (c .stopped2 .result .body) (c .stopped2 .ensures)
+
+-- src/judge.rt:257:46
+slice-aggregate-total-of : tie.Need-slice-aggregate-total-of
+slice-aggregate-total-of c = search needs
+
+-- src/judge.rt:257:37
+total-of-requires : tie.Need-total-of-requires
+total-of-requires c κs =
+    counts-small (c .before .before .before .before .before .before .before .before .before .before .before .before .before .before .args .text .now) (0 ∷ 0 ∷ 0 ∷ []) (c .before .before .before .before .before .before .before .before .before .before .before .judge-heads .result) (c .before .before .before .before .before .before .before .before .before .before .before .judge-heads .last .1 .0) (c .before .before .before .before .before .before .before .before .before .before .before .judge-heads .ensures)
+    (c .before .before .before .before .before .before .before .if1 .left) (0 ∷ 0 ∷ 0 ∷ 0 ∷ 0 ∷ 0 ∷ []) (c .before .before .before .before .before .judge-tables .result) (c .before .before .before .before .before .judge-tables .last .1 .1 .0) (c .before .before .before .before .before .judge-tables .ensures) (c .before .if2 .left) refl
+
+-- src/judge.rt:257:9
+judge-end-requires : tie.Need-judge-end-requires
+judge-end-requires c κs =
+    c .before .before .before .before .before .before .judge-tables .ensures .inside
+
+-- src/judge.rt:259:9
+stopped-requires-3 : tie.Need-stopped-requires-3
+stopped-requires-3 c κs =
+    search needs
+
+-- src/judge.rt:259:9
+returns-3 : tie.Need-returns-3
+returns-3 c =
+    judged-end (c .before .before .before .before .before .before .before .before .before .before .before .before .before .before .before .before .before .before .before .args .text .now) (0 ∷ 0 ∷ 0 ∷ []) (c .before .before .before .before .before .before .before .before .before .before .before .before .before .before .before .before .judge-heads .result) (c .before .before .before .before .before .before .before .before .before .before .before .before .before .before .before .before .judge-heads .last .1 .0) (c .before .before .before .before .before .before .before .before .before .before .before .before .before .before .before .before .judge-heads .ensures)
+    (c .before .before .before .before .before .before .before .before .before .before .before .before .if1 .left) (0 ∷ 0 ∷ 0 ∷ 0 ∷ 0 ∷ 0 ∷ []) (c .before .before .before .before .before .before .before .before .before .before .judge-tables .result) (c .before .before .before .before .before .before .before .before .before .before .judge-tables .last .1 .1 .0) (c .before .before .before .before .before .before .before .before .before .before .judge-tables .ensures)
+    (c .before .before .before .before .before .before .if2 .left) refl (c .before .before .before .before .total-of .result) (c .before .before .before .before .total-of .ensures) (c .before .before .before .judge-end .result) (c .before .before .before .judge-end .ensures)
+    (c .before .if3 .taken) (c .stopped3 .result .held) (c .stopped3 .result .body) (c .stopped3 .ensures)
+
+-- src/judge.rt:262:21
+slice-aggregate-found : tie.Need-slice-aggregate-found
+slice-aggregate-found c = search needs
+
+-- src/judge.rt:262:28
+slice-aggregate-found-2 : tie.Need-slice-aggregate-found-2
+slice-aggregate-found-2 c = search needs
+
+-- src/judge.rt:262:15
+found-requires : tie.Need-found-requires
+found-requires c κs =
+    (c .before .before .before .before .before .before .before .before .before .before .before .before .before .before .before .before .before .judge-heads .kept .1 .0, c .before .before .before .before .before .before .before .before .before .before .before .judge-tables .kept .1 .1 .0)
+
+-- src/judge.rt:240:1
+returns-4 : tie.Need-returns-4
+returns-4 c =
+    judged-fine (c .before .before .before .before .before .before .before .before .before .before .before .before .before .before .before .before .before .before .before .before .before .args .text .now) (0 ∷ 0 ∷ 0 ∷ []) (c .before .before .before .before .before .before .before .before .before .before .before .before .before .before .before .before .before .before .judge-heads .result) (c .before .before .before .before .before .before .before .before .before .before .before .before .before .before .before .before .before .before .judge-heads .last .1 .0) (c .before .before .before .before .before .before .before .before .before .before .before .before .before .before .before .before .before .before .judge-heads .ensures)
+    (c .before .before .before .before .before .before .before .before .before .before .before .before .before .before .if1 .left) (0 ∷ 0 ∷ 0 ∷ 0 ∷ 0 ∷ 0 ∷ []) (c .before .before .before .before .before .before .before .before .before .before .before .before .judge-tables .result) (c .before .before .before .before .before .before .before .before .before .before .before .before .judge-tables .last .1 .1 .0) (c .before .before .before .before .before .before .before .before .before .before .before .before .judge-tables .ensures)
+    (c .before .before .before .before .before .before .before .before .if2 .left) refl (c .before .before .before .before .before .before .total-of .result) (c .before .before .before .before .before .before .total-of .ensures) (c .before .before .before .before .before .judge-end .result) (c .before .before .before .before .before .judge-end .ensures)
+    (c .before .before .before .if3 .left) refl (c .found .result) (c .found .ensures)
+
+pub judge-text-spec : {M : Type 1} → statement M
+judge-text-spec =
+    tie.close
+    (tie.spec
+    slice-aggregate-judge-heads
+    judge-heads-requires
+    stopped-requires
+    returns
+    slice-aggregate-judge-tables
+    judge-tables-requires
+    stopped-requires-2
+    returns-2
+    slice-aggregate-total-of
+    total-of-requires
+    judge-end-requires
+    stopped-requires-3
+    returns-3
+    slice-aggregate-found
+    slice-aggregate-found-2
+    found-requires
+    returns-4)

@@ -1,0 +1,32 @@
+use mathlib.Core.Path.{_≡_, refl, sym, ap, _∙_}
+use mathlib.Core.Logic.{⊎-elim}
+use Prim.Native.Nat.{ℕ, zero, suc, _≤_, _<_, _+_, _*_, _/_, _%_, _-_, _^_, min}
+use native.Mathlib.Numerals.{add-one}
+use native.Mathlib.Omega.{arith}
+use native.Mathlib.Nat.{div-mul-le-self}
+use lib.ListN.{length}
+use borrow.Author.Needs.{needs}
+use Rattle.monthfile.proofs.put.put_table.Statement.{statement}
+use Rattle.monthfile.proofs.put.put_table.Tie as tie
+use Rattle.monthfile.proofs.put.put_table.Reads as reads
+use Rattle.monthfile.proofs.put.put_table.Lts as lts
+use Rattle.monthfile.proofs.row.put_rows.Reads as put-rows-reads
+
+-- src/put.rt:29:31
+div-put-rows : tie.Need-div-put-rows
+div-put-rows c = search needs
+
+-- src/put.rt:29:5
+put-rows-requires : tie.Need-put-rows-requires
+put-rows-requires c κs = (div-mul-le-self (length (c .before .before .before .before .args .words .now)) (c .before .before .before .before .args .width), c .before .before .before .before .pre .1)
+
+-- src/put.rt:25:1
+same-length : tie.Need-same-length
+same-length c = search needs
+
+-- src/put.rt:25:1
+returns : tie.Need-returns
+returns c = search needs
+
+pub put-table-spec : {M : Type 1} → statement M
+put-table-spec = tie.close (tie.spec div-put-rows put-rows-requires same-length returns)

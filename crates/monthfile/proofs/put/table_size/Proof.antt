@@ -1,0 +1,28 @@
+use mathlib.Core.Path.{_≡_, refl, sym, ap, _∙_}
+use mathlib.Core.Logic.{⊎-elim}
+use Prim.Native.Nat.{ℕ, zero, suc, _≤_, _<_, _+_, _*_, _/_, _%_, _-_, _^_, min}
+use native.Mathlib.Numerals.{add-one}
+use native.Mathlib.Omega.{arith}
+use native.Mathlib.Nat.{div-mul-le-self}
+use lib.ListN.{length}
+use borrow.Author.Needs.{needs}
+use Rattle.monthfile.proofs.put.table_size.Statement.{statement}
+use Rattle.monthfile.proofs.put.table_size.Tie as tie
+use Rattle.monthfile.proofs.put.table_size.Reads as reads
+use Rattle.monthfile.proofs.put.table_size.Lts as lts
+use Rattle.monthfile.proofs.row.rows_size.Reads as rows-size-reads
+
+-- src/put.rt:21:32
+div-rows-size : tie.Need-div-rows-size
+div-rows-size c = search needs
+
+-- src/put.rt:21:5
+rows-size-requires : tie.Need-rows-size-requires
+rows-size-requires c κs = (div-mul-le-self (length (c .before .before .args .words .now)) (c .before .before .args .width), c .before .before .pre .1)
+
+-- src/put.rt:17:1
+returns : tie.Need-returns
+returns c = search needs
+
+pub table-size-spec : {M : Type 1} → statement M
+table-size-spec = tie.close (tie.spec div-rows-size rows-size-requires returns)

@@ -1,0 +1,63 @@
+use mathlib.Core.Path.{_≡_, refl, sym, ap, _∙_}
+use mathlib.Core.Logic.{⊎-elim}
+use Prim.Native.Nat.{ℕ, zero, suc, _≤_, _<_, _+_, _*_, _/_, _%_, _-_, _^_, min}
+use native.Mathlib.Numerals.{add-one}
+use native.Mathlib.Omega.{arith}
+use mathlib.Core.Path.{subst}
+use Rattle.answer.specs.Turns.{refuse}
+use Rattle.tables.specs.Shape.{number, width, limit}
+use Rattle.monthfile.proofs.Rooms.{room-short, room-enough}
+use borrow.Author.Needs.{needs}
+use Rattle.monthfile.proofs.room.room_of.Statement.{statement}
+use Rattle.monthfile.proofs.room.room_of.Tie as tie
+use Rattle.monthfile.proofs.room.room_of.Reads as reads
+use Rattle.monthfile.proofs.room.room_of.Lts as lts
+use Rattle.answer.proofs.refused.Reads as refused-reads
+use Rattle.monthfile.proofs.room.full_size.Reads as full-size-reads
+use Rattle.tables.proofs.number.Reads as number-reads
+
+-- src/room.rt:29:15
+full-size-requires : tie.Need-full-size-requires
+full-size-requires c κs = search needs
+
+-- src/room.rt:30:46
+number-requires : tie.Need-number-requires
+number-requires c κs = search needs
+
+-- src/room.rt:30:9
+refused-requires : tie.Need-refused-requires
+refused-requires c κs = search needs
+
+-- src/room.rt:30:9
+returns : tie.Need-returns
+returns c =
+    let t = c .before .before .before .before .args .table in
+    c .refused .ensures ∙ ap (λ n. refuse 2 n 0) (c .before .number .ensures)
+    ∙ room-short (number t) (limit t * width t) (c .before .before .before .before .args .lent) (subst (λ n. c .before .before .before .before .args .lent < n) (c .before .before .before .full-size .ensures) (c .before .before .if1 .taken))
+
+-- src/room.rt:32:39
+number-requires-2 : tie.Need-number-requires-2
+number-requires-2 c κs = search needs
+
+-- src/room.rt:32:5
+refused-requires-2 : tie.Need-refused-requires-2
+refused-requires-2 c κs = search needs
+
+-- src/room.rt:26:1
+returns-2 : tie.Need-returns-2
+returns-2 c =
+    let t = c .before .before .before .before .args .table in
+    c .refused2 .ensures ∙ ap (λ n. refuse 0 n 0) (c .before .number2 .ensures)
+    ∙ room-enough (number t) (limit t * width t) (c .before .before .before .before .args .lent) (subst (λ n. n ≤ c .before .before .before .before .args .lent) (c .before .before .before .full-size .ensures) (c .before .before .if1 .left))
+
+pub room-of-spec : {M : Type 1} → statement M
+room-of-spec =
+    tie.close
+    (tie.spec
+    full-size-requires
+    number-requires
+    refused-requires
+    returns
+    number-requires-2
+    refused-requires-2
+    returns-2)

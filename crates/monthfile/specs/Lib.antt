@@ -1,0 +1,5 @@
+pub mod Form
+pub mod Reading
+pub mod Writing
+pub mod Calls
+pub mod Walks
