@@ -1,5 +1,0 @@
-pub mod Form
-pub mod Reading
-pub mod Writing
-pub mod Calls
-pub mod Walks
