@@ -4,3 +4,4 @@ pub mod Lines
 pub mod Stores
 pub mod Places
 pub mod Pieces
+pub mod Readers

@@ -81,3 +81,13 @@ sized-append before x y cap n m p q =
 
 pub sized-most : (before : ℕ) (x : List ℕ) (cap n : ℕ) → Sized before x cap n → n ≤ cap
 sized-most before x cap n p = let a : n ≡ min (before + length x) cap = p .capped in omega arith
+
+-- room for two pieces is room for the first, and then for the second
+pub fits-first : (l : List ℕ) (at : ℕ) (x y : List ℕ) → at + length (x ++ y) ≤ length l → at + length x ≤ length l
+fits-first l at x y h = omega (arith, length-append x y)
+
+pub fits-on : (l : List ℕ) (at : ℕ) (x y : List ℕ) (n : ℕ) (k : List ℕ) → Put l at x n k → length k ≡ length l → at + length (x ++ y) ≤ length l
+    → n + length y ≤ length k
+fits-on l at x y n k p e h =
+    let a : n ≡ at + length x = p .onward in
+    omega (arith, length-append x y)

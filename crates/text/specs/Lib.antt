@@ -2,3 +2,4 @@ pub mod Bytes
 pub mod Numbers
 pub mod Lines
 pub mod Places
+pub mod Readers

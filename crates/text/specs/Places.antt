@@ -22,6 +22,13 @@ pub record LineAt (s : List ℕ) (o : Found (List ℕ)) (next : ℕ) : Type 0 wh
   pub fits : next ≢ 0 → (ns : List ℕ) × (o ≡ found ns (drop next s))
   pub unfit : next ≡ 0 → o ≡ missing
 
+-- where a line ends that was to be read from an offset on, the offset itself where it doesn't fit (a line has bytes)
+pub record EndAt (s : List ℕ) (at : ℕ) (o : Found (List ℕ)) (next : ℕ) : Type 0 where
+  pub onward : at ≤ next
+  pub inside : next ≢ at → next ≤ length s
+  pub fits : next ≢ at → (ns : List ℕ) × (o ≡ found ns (drop next s))
+  pub unfit : next ≡ at → o ≡ missing
+
 -- a key with its equals sign: whatever is read behind it is read at the offset, 0 where it doesn't stand there
 pub record KeyAt (key s rest : List ℕ) (next : ℕ) : Type 0 where
   pub inside : next ≤ length s

@@ -5,7 +5,7 @@ ghost use Prim.Native.Nat.{_+_, _≤_, _<_};
 ghost use lib.ListN.{length, take, drop};
 ghost use Rattle.text.specs.Numbers.{missing};
 ghost use Rattle.text.specs.Lines.{separator, field, fields, line, fieldsText, lineText};
-ghost use Rattle.text.specs.Places.{NumberAt, LineAt, KeyAt, Put, Sized, Taken};
+ghost use Rattle.text.specs.Places.{NumberAt, LineAt, EndAt, KeyAt, Put, Sized, Taken};
 use crate::number;
 use crate::number::Number;
 
@@ -100,6 +100,17 @@ pub fn line_at(text: &[u8], at: usize, key: &[u8], width: usize) -> usize
         return 0;
     }
     fields_at(text, start, width)
+}
+
+// The offset behind the line at `at`, `at` itself where no line with that key and so many fields stands there.
+pub fn line_end(text: &[u8], at: usize, key: &[u8], width: usize) -> usize
+    ensures { λ r. ⌜ EndAt (now (text .entry)) at (line (now (key .entry)) width (drop at (now (text .entry)))) r ⌝ }
+{
+    let end = line_at(text, at, key, width);
+    if end == 0 {
+        return at;
+    }
+    end
 }
 
 // Stores the fields at `at` in `words` from `place` on, and answers the offset behind them.

@@ -1,0 +1,55 @@
+-- Case S of the paper reads and writes, and files bent at some place are refused there: antt computes each.
+-- Assumes nothing.
+use mathlib.Core.Path.{_≡_, refl}
+use mathlib.Core.List.{List, [], _∷_, _++_}
+use Prim.Native.Nat.{ℕ}
+use Rattle.answer.specs.Numbers.{TEXT, COUNT}
+use Rattle.answer.specs.Turns.{refuse}
+use Rattle.text.specs.Bytes.{bytes}
+use Rattle.text.specs.Numbers.{isDigit, digitsOn, number, digits, decimal}
+use Rattle.text.specs.Lines.{past, field, fields, line, fieldsText, lineText}
+use Rattle.monthfile.specs.Form.{monthForm}
+use Rattle.monthfile.specs.Reading.{Outcome, got, refused, rows, heads, tables, Contents, rowsIn, ending, reading}
+use Rattle.monthfile.specs.Writing.{rowsText, headsText, tablesText, fileText}
+
+abbrev caseText : List ℕ
+caseText = bytes "month=4\ndays=30\nnonzone=0\nzone=1,365000\nowner=1,1,200\nowner=2,1,100\nunit=1,2,1,1,12000,0\naccount=1,70,1\naccount=2,71,0\nload=1,1,10\nload=1,2,10\nptp=2,480,0\nend=9\n"
+
+abbrev caseContents : Contents
+caseContents =
+    record {
+      head = 4 ∷ 30 ∷ 0 ∷ [];
+      tables =
+          record { count = 1; words = 1 ∷ 365000 ∷ [] }
+          ∷ record { count = 2; words = 1 ∷ 1 ∷ 200 ∷ 2 ∷ 1 ∷ 100 ∷ [] }
+          ∷ record { count = 1; words = 1 ∷ 2 ∷ 1 ∷ 1 ∷ 12000 ∷ 0 ∷ [] }
+          ∷ record { count = 2; words = 1 ∷ 70 ∷ 1 ∷ 2 ∷ 71 ∷ 0 ∷ [] }
+          ∷ record { count = 2; words = 1 ∷ 1 ∷ 10 ∷ 1 ∷ 2 ∷ 10 ∷ [] }
+          ∷ record { count = 1; words = 2 ∷ 480 ∷ 0 ∷ [] }
+          ∷ [];
+    }
+
+pub case-reads : reading monthForm caseText ≡ got caseContents []
+unfolding isDigit digitsOn number past field fields line rows heads tables rowsIn ending reading
+case-reads = refl
+
+pub case-writes : fileText monthForm caseContents ≡ caseText
+unfolding digits decimal fieldsText lineText rowsText headsText tablesText fileText rowsIn
+case-writes = refl
+
+-- a last line without its line feed; a line that is missing; a needless zero; a byte behind `end`; a wrong number of rows
+pub bent-no-feed : reading monthForm (bytes "month=4") ≡ refused (refuse TEXT 0 0)
+unfolding isDigit digitsOn number past field fields line rows heads tables rowsIn ending reading refuse
+bent-no-feed = refl
+
+pub bent-missing : reading monthForm (bytes "month=4\n") ≡ refused (refuse TEXT 0 8)
+unfolding isDigit digitsOn number past field fields line rows heads tables rowsIn ending reading refuse
+bent-missing = refl
+
+pub bent-zero : reading monthForm (bytes "month=4\ndays=030\n") ≡ refused (refuse TEXT 0 8)
+unfolding isDigit digitsOn number past field fields line rows heads tables rowsIn ending reading refuse
+bent-zero = refl
+
+pub bent-behind : reading monthForm (caseText ++ bytes "\n") ≡ refused (refuse TEXT 0 161)
+unfolding isDigit digitsOn number past field fields line rows heads tables rowsIn ending reading refuse
+bent-behind = refl

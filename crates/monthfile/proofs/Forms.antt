@@ -1,0 +1,341 @@
+-- For every form whose keys differ: the text of contents within its limits reads as those contents, and a text that reads as
+-- some contents is their text. Line by line, from the laws of rows and lines.
+-- Assumes nothing.
+use mathlib.Core.Path.{_≡_, refl, sym, ap, ap₂, _∙_, subst}
+use mathlib.Core.Logic.{_⊎_, inl, inr, ⊎-elim, _≢_}
+use mathlib.Core.Bool.{Bool, true, false, cond, true≢false, _&&_}
+use mathlib.Core.List.{List, [], _∷_, _++_, append-assoc, append-nil}
+use Prim.Native.Nat.{ℕ, zero, suc, _+_, _-_, _*_, _≤_, _<_}
+use native.Mathlib.Omega.{arith}
+use lib.Dec.{ltb, eqb}
+use lib.ListN.{length, take, drop, length-append}
+use borrow.Author.Tests.{lt-ltb, le-ltb, eq-eqb, ne-eqb, ltb-true, ltb-false, eqb-true, eqb-false}
+use Rattle.lists.specs.Sums.{at}
+use Rattle.lists.proofs.Ranks.{true-or-false, lt-or-le}
+use Rattle.answer.specs.declared.Answer.{Answer}
+use Rattle.answer.specs.Numbers.{COUNT}
+use Rattle.answer.specs.Turns.{refuse}
+use Rattle.text.specs.Numbers.{Found, found, missing, bound, Below}
+use Rattle.text.specs.Lines.{equals, apart, line, lineText}
+use Rattle.text.proofs.Numbers.{never}
+use Rattle.text.proofs.Below.{below-none, below-cons, below-append, below-drop}
+use Rattle.text.proofs.Lines.{line-text, line-back, Line, line-apart}
+use Rattle.monthfile.specs.Form.{Kind, Form}
+use Rattle.monthfile.specs.Reading.{Outcome, got, refused, onward, unfit, Rows, RowsRead, rows, heads, tables, Contents, rowsIn, closed, ending, reading}
+use Rattle.monthfile.specs.Writing.{rowsText, headsText, tablesText, fileText, Fits, AllFit, Within}
+use Rattle.monthfile.proofs.RowLaws.{rows-text, rows-back, RowsBack}
+
+-- nothing is both refused and read
+pub not-both : {A : Type 0} {o : Outcome A} {a : A} {s : List ℕ} {r : Answer} → o ≡ refused r → o ≡ got a s → ⊥
+not-both p q = let z : _≡_ {A = ℕ} 0 1 = cc in omega arith
+
+-- a value that was read, and what was read behind it
+pub record Onward {A B : Type 0} (o : Outcome A) (go : A → List ℕ → Outcome B) (b : B) (t : List ℕ) : Type 0 where
+  pub value : A
+  pub rest : List ℕ
+  pub first : o ≡ got value rest
+  pub then-on : go value rest ≡ got b t
+
+pub onward-back : {A B : Type 0} (o : Outcome A) (go : A → List ℕ → Outcome B) (b : B) (t : List ℕ) → onward o go ≡ got b t → Onward o go b t
+onward-back (got a s) go b t e = record { value = a; rest = s; first = refl; then-on = e }
+onward-back (refused r) go b t e = absurd (not-both refl e)
+
+-- the first lines
+pub heads-none : (size : ℕ) (s : List ℕ) → heads size [] s ≡ got [] s
+unfolding heads
+heads-none size s = refl
+
+pub heads-on : (size : ℕ) (key : List ℕ) (keys : List (List ℕ)) (s ns t : List ℕ) → line key 1 s ≡ found ns t
+    → heads size (key ∷ keys) s ≡ onward (heads size keys t) (λ ms u. got (ns ++ ms) u)
+unfolding heads
+heads-on size key keys s ns t e = rw e
+
+pub heads-stop : (size : ℕ) (key : List ℕ) (keys : List (List ℕ)) (s : List ℕ) → line key 1 s ≡ missing
+    → heads size (key ∷ keys) s ≡ refused (unfit size s)
+unfolding heads
+heads-stop size key keys s e = rw e
+
+-- a list of one number
+single : (ns : List ℕ) → length ns ≡ 1 → ns ≡ at ns 0 ∷ []
+single [] e = absurd (let z : 0 ≡ 1 = e in omega arith)
+single (n ∷ []) e = refl
+single (n ∷ m ∷ ns) e = absurd (let z : suc (suc (length ns)) ≡ 1 = e in omega arith)
+
+one-more : {n m : ℕ} → suc n ≡ suc m → n ≡ m
+one-more e = omega arith
+
+pub heads-text : (size : ℕ) (keys : List (List ℕ)) (ns rest : List ℕ) → length ns ≡ length keys → Below ns
+    → heads size keys (headsText keys ns ++ rest) ≡ got ns rest
+unfolding headsText
+heads-text size [] [] rest e h = heads-none size rest
+heads-text size [] (n ∷ ns) rest e h = absurd (let z : suc (length ns) ≡ 0 = e in omega arith)
+heads-text size (key ∷ keys) [] rest e h = absurd (let z : 0 ≡ suc (length keys) = e in omega arith)
+heads-text size (key ∷ keys) (n ∷ ns) rest e h =
+    ap (heads size (key ∷ keys)) (append-assoc (lineText key (n ∷ [])) (headsText keys ns) rest)
+    ∙ heads-on size key keys (lineText key (n ∷ []) ++ (headsText keys ns ++ rest)) (n ∷ []) (headsText keys ns ++ rest)
+    (line-text key (n ∷ []) (headsText keys ns ++ rest) (below-cons n [] (h 0) below-none))
+    ∙ ap (λ o. onward o (λ ms u. got (n ∷ ms) u)) (heads-text size keys ns rest (one-more e) (λ i. h (suc i)))
+
+pub record HeadsBack (keys : List (List ℕ)) (s ns rest : List ℕ) : Type 0 where
+  pub written : s ≡ headsText keys ns ++ rest
+  pub one-each : length ns ≡ length keys
+  pub below : Below ns
+
+heads-back-on : (key : List ℕ) (keys : List (List ℕ)) (s ns t ms rest : List ℕ) → line key 1 s ≡ found ns t → HeadsBack keys t ms rest
+    → HeadsBack (key ∷ keys) s (ns ++ ms) rest
+unfolding headsText
+heads-back-on key keys s ns t ms rest e b =
+    let one : Line key 1 s ns t = line-back key 1 s ns t e in
+    let only : ns ≡ at ns 0 ∷ [] = single ns (one .width-is) in
+    subst (λ k. HeadsBack (key ∷ keys) s (k ++ ms) rest) (sym only)
+    (record {
+      written =
+          one .written
+          ∙ ap₂ (λ k u. lineText key k ++ u) only (b .written)
+          ∙ sym (append-assoc (lineText key (at ns 0 ∷ [])) (headsText keys ms) rest);
+      one-each = ap suc (b .one-each);
+      below = below-cons (at ns 0) ms (one .below 0) (b .below);
+    })
+
+pub heads-back : (size : ℕ) (keys : List (List ℕ)) (s ns rest : List ℕ) → heads size keys s ≡ got ns rest → HeadsBack keys s ns rest
+unfolding headsText
+heads-back size [] s ns rest e =
+    let same : got [] s ≡ got ns rest = sym (heads-none size s) ∙ e in
+    let value : _≡_ {A = List ℕ} [] ns = cc in
+    let left : s ≡ rest = cc in
+    subst (λ k. HeadsBack [] s k rest) value (record { written = left; one-each = refl; below = below-none })
+heads-back size (key ∷ keys) s ns rest e = go (line key 1 s) refl (heads-back size keys)
+  where
+    go : (o : Found (List ℕ)) → line key 1 s ≡ o → ((t ms u : List ℕ) → heads size keys t ≡ got ms u → HeadsBack keys t ms u)
+        → HeadsBack (key ∷ keys) s ns rest
+    go missing p more = absurd (not-both (heads-stop size key keys s p) e)
+    go (found one t) p more =
+        let on : Onward (heads size keys t) (λ ms u. got (one ++ ms) u) ns rest =
+        onward-back (heads size keys t) (λ ms u. got (one ++ ms) u) ns rest (sym (heads-on size key keys s one t p) ∙ e) in
+        let same : got (one ++ on .value) (on .rest) ≡ got ns rest = on .then-on in
+        let value : one ++ on .value ≡ ns = cc in
+        let left : on .rest ≡ rest = cc in
+        subst (λ k. HeadsBack (key ∷ keys) s k rest) value
+        (heads-back-on key keys s one t (on .value) rest p (subst (HeadsBack keys t (on .value)) left (more t (on .value) (on .rest) (on .first))))
+
+-- the tables
+pub tables-none : (s : List ℕ) → tables [] s ≡ got [] s
+unfolding tables
+tables-none s = refl
+
+-- the rows of a kind at the front of a text, to one past the limit, and those within it as a table
+abbrev pub readOf : Kind → List ℕ → RowsRead
+readOf kind s = rows (kind .key) (kind .width) (suc (kind .limit)) s
+
+abbrev pub tableOf : RowsRead → Rows
+tableOf r = record { count = r .count; words = r .words }
+
+pub tables-on : (kind : Kind) (kinds : List Kind) (s : List ℕ) → readOf kind s .count ≤ kind .limit
+    → tables (kind ∷ kinds) s ≡ onward (tables kinds (readOf kind s .rest)) (λ ts u. got (tableOf (readOf kind s) ∷ ts) u)
+unfolding tables
+tables-on kind kinds s h = rw (le-ltb (kind .limit) (readOf kind s .count) h)
+
+pub tables-over : (kind : Kind) (kinds : List Kind) (s : List ℕ) → kind .limit < readOf kind s .count
+    → tables (kind ∷ kinds) s ≡ refused (refuse COUNT (kind .table) (kind .limit))
+unfolding tables
+tables-over kind kinds s h = rw (lt-ltb (kind .limit) (readOf kind s .count) h)
+
+-- the keys of two lines differ, as far as both go
+abbrev pub differ : List ℕ → List ℕ → Bool
+differ key other = apart (key ++ (equals ∷ [])) (other ++ (equals ∷ []))
+
+-- a key differs from those of some kinds, and from the last
+unfoldable pub differs : List ℕ → List Kind → List ℕ → Bool
+differs key [] last = differ key last
+differs key (kind ∷ kinds) last = differ key (kind .key) && differs key kinds last
+
+-- so does each kind's from those of the kinds behind it
+unfoldable pub allDiffer : List Kind → List ℕ → Bool
+allDiffer [] last = true
+allDiffer (kind ∷ kinds) last = differs (kind .key) kinds last && allDiffer kinds last
+
+both-left : (s t : Bool) → (s && t) ≡ true → s ≡ true
+both-left true t e = refl
+both-left false t e = e
+
+both-right : (s t : Bool) → (s && t) ≡ true → t ≡ true
+both-right true t e = e
+both-right false t e = absurd (true≢false (sym e))
+
+-- no row of a kind stands where rows of another do, or where later kinds and the last line do
+rows-apart : (key : List ℕ) (width : ℕ) (kind : Kind) (n : ℕ) (words rest : List ℕ) → differ key (kind .key) ≡ true → line key width rest ≡ missing
+    → line key width (rowsText (kind .key) (kind .width) n words ++ rest) ≡ missing
+unfolding rowsText
+rows-apart key width kind zero words rest d e = e
+rows-apart key width kind (suc n) words rest d e =
+    ap (line key width) (append-assoc (lineText (kind .key) (take (kind .width) words)) (rowsText (kind .key) (kind .width) n (drop (kind .width) words)) rest)
+    ∙ line-apart key (kind .key) width (take (kind .width) words) (rowsText (kind .key) (kind .width) n (drop (kind .width) words) ++ rest) d
+
+no-row : (key : List ℕ) (width : ℕ) (kinds : List Kind) (ts : List Rows) (last ns rest : List ℕ) → AllFit kinds ts → differs key kinds last ≡ true
+    → line key width (tablesText kinds ts ++ (lineText last ns ++ rest)) ≡ missing
+unfolding differs tablesText
+no-row key width [] [] last ns rest f d = line-apart key last width ns rest d
+no-row key width [] (t ∷ ts) last ns rest f d = absurd f
+no-row key width (kind ∷ kinds) [] last ns rest f d = absurd f
+no-row key width (kind ∷ kinds) (t ∷ ts) last ns rest f d =
+    ap (line key width) (append-assoc (rowsText (kind .key) (kind .width) (t .count) (t .words)) (tablesText kinds ts) (lineText last ns ++ rest))
+    ∙ rows-apart key width kind (t .count) (t .words) (tablesText kinds ts ++ (lineText last ns ++ rest))
+    (both-left (differ key (kind .key)) (differs key kinds last) d)
+    (no-row key width kinds ts last ns rest (f .1) (both-right (differ key (kind .key)) (differs key kinds last) d))
+
+pub tables-text : (kinds : List Kind) (ts : List Rows) (last ns rest : List ℕ) → AllFit kinds ts → allDiffer kinds last ≡ true
+    → tables kinds (tablesText kinds ts ++ (lineText last ns ++ rest)) ≡ got ts (lineText last ns ++ rest)
+unfolding allDiffer tablesText
+tables-text [] [] last ns rest f d = tables-none (lineText last ns ++ rest)
+tables-text [] (t ∷ ts) last ns rest f d = absurd f
+tables-text (kind ∷ kinds) [] last ns rest f d = absurd f
+tables-text (kind ∷ kinds) (t ∷ ts) last ns rest f d =
+    let later : List ℕ = tablesText kinds ts ++ (lineText last ns ++ rest) in
+    let whole : List ℕ = rowsText (kind .key) (kind .width) (t .count) (t .words) ++ later in
+    let own : readOf kind whole ≡ record { count = t .count; words = t .words; rest = later } =
+    rows-text (kind .key) (kind .width) (t .count) (kind .limit) (t .words) later (f .0 .few) (f .0 .whole) (f .0 .below)
+    (no-row (kind .key) (kind .width) kinds ts last ns rest (f .1) (both-left (differs (kind .key) kinds last) (allDiffer kinds last) d)) in
+    ap (tables (kind ∷ kinds)) (append-assoc (rowsText (kind .key) (kind .width) (t .count) (t .words)) (tablesText kinds ts) (lineText last ns ++ rest))
+    ∙ tables-on kind kinds whole (subst (λ (r : RowsRead). r .count ≤ kind .limit) (sym own) (f .0 .few))
+    ∙ ap (λ (r : RowsRead). onward (tables kinds (r .rest)) (λ us u. got (tableOf r ∷ us) u)) own
+    ∙ ap (λ o. onward o (λ us u. got (t ∷ us) u))
+    (tables-text kinds ts last ns rest (f .1) (both-right (differs (kind .key) kinds last) (allDiffer kinds last) d))
+
+pub record TablesBack (kinds : List Kind) (s : List ℕ) (ts : List Rows) (rest : List ℕ) : Type 0 where
+  pub written : s ≡ tablesText kinds ts ++ rest
+  pub fit : AllFit kinds ts
+
+tables-back-on : (kind : Kind) (kinds : List Kind) (s : List ℕ) (ts : List Rows) (rest : List ℕ) → readOf kind s .count ≤ kind .limit
+    → TablesBack kinds (readOf kind s .rest) ts rest → TablesBack (kind ∷ kinds) s (tableOf (readOf kind s) ∷ ts) rest
+unfolding tablesText
+tables-back-on kind kinds s ts rest h b =
+    let own : RowsBack (kind .key) (kind .width) s (readOf kind s) = rows-back (kind .key) (kind .width) (suc (kind .limit)) s in
+    let r : RowsRead = readOf kind s in
+    record {
+      written =
+          own .written
+          ∙ ap (λ u. rowsText (kind .key) (kind .width) (r .count) (r .words) ++ u) (b .written)
+          ∙ sym (append-assoc (rowsText (kind .key) (kind .width) (r .count) (r .words)) (tablesText kinds ts) rest);
+      fit = (record { whole = own .whole; few = h; below = own .below }, b .fit);
+    }
+
+pub tables-back : (kinds : List Kind) (s : List ℕ) (ts : List Rows) (rest : List ℕ) → tables kinds s ≡ got ts rest → TablesBack kinds s ts rest
+unfolding tablesText
+tables-back [] s ts rest e =
+    let same : got [] s ≡ got ts rest = sym (tables-none s) ∙ e in
+    let value : _≡_ {A = List Rows} [] ts = cc in
+    let left : s ≡ rest = cc in
+    subst (λ k. TablesBack [] s k rest) value (record { written = left; fit = tt })
+tables-back (kind ∷ kinds) s ts rest e =
+    ⊎-elim
+    (λ (over : kind .limit < readOf kind s .count). absurd (not-both (tables-over kind kinds s over) e))
+    (λ (fine : readOf kind s .count ≤ kind .limit).
+    let more : List Rows → List ℕ → Outcome (List Rows) = λ us u. got (tableOf (readOf kind s) ∷ us) u in
+    let on : Onward (tables kinds (readOf kind s .rest)) more ts rest =
+    onward-back (tables kinds (readOf kind s .rest)) more ts rest (sym (tables-on kind kinds s fine) ∙ e) in
+    let same : got (tableOf (readOf kind s) ∷ on .value) (on .rest) ≡ got ts rest = on .then-on in
+    let value : tableOf (readOf kind s) ∷ on .value ≡ ts = cc in
+    let left : on .rest ≡ rest = cc in
+    subst (λ k. TablesBack (kind ∷ kinds) s k rest) value
+    (tables-back-on kind kinds s (on .value) rest fine
+    (subst (TablesBack kinds (readOf kind s .rest) (on .value)) left
+    (tables-back kinds (readOf kind s .rest) (on .value) (on .rest) (on .first)))))
+    (lt-or-le (kind .limit) (readOf kind s .count))
+
+-- the last line
+pub ending-stop : (size : ℕ) (key : List ℕ) (c : Contents) (s : List ℕ) → line key 1 s ≡ missing → ending size key c s ≡ refused (unfit size s)
+unfolding ending
+ending-stop size key c s e = rw e
+
+pub ending-other : (size : ℕ) (key : List ℕ) (c : Contents) (s ns t : List ℕ) → line key 1 s ≡ found ns t → at ns 0 ≢ rowsIn (c .tables)
+    → ending size key c s ≡ refused (unfit size s)
+unfolding ending
+ending-other size key c s ns t e d = rw (e, ne-eqb (at ns 0) (rowsIn (c .tables)) d)
+
+pub ending-on : (size : ℕ) (key : List ℕ) (c : Contents) (s ns t : List ℕ) → line key 1 s ≡ found ns t → at ns 0 ≡ rowsIn (c .tables)
+    → ending size key c s ≡ closed size c t
+unfolding ending
+ending-on size key c s ns t e q = rw (e, eq-eqb (at ns 0) (rowsIn (c .tables)) q)
+
+pub ending-back : (size : ℕ) (key : List ℕ) (c d : Contents) (s rest : List ℕ) → ending size key c s ≡ got d rest
+    → (c ≡ d) × (s ≡ lineText key (rowsIn (c .tables) ∷ []))
+ending-back size key c d s rest e = go (line key 1 s) refl
+  where
+    last : (ns t : List ℕ) → line key 1 s ≡ found ns t → at ns 0 ≡ rowsIn (c .tables) → (c ≡ d) × (s ≡ lineText key (rowsIn (c .tables) ∷ []))
+    last ns [] p q =
+        let one : Line key 1 s ns [] = line-back key 1 s ns [] p in
+        let same : got c [] ≡ got d rest = sym (ending-on size key c s ns [] p q) ∙ e in
+        let value : c ≡ d = cc in
+        (value, one .written ∙ append-nil (lineText key ns) ∙ ap (lineText key) (single ns (one .width-is) ∙ ap (λ k. k ∷ []) q))
+    last ns (b ∷ t) p q = absurd (not-both (ending-on size key c s ns (b ∷ t) p q) e)
+
+    go : (o : Found (List ℕ)) → line key 1 s ≡ o → (c ≡ d) × (s ≡ lineText key (rowsIn (c .tables) ∷ []))
+    go missing p = absurd (not-both (ending-stop size key c s p) e)
+    go (found ns t) p =
+        ⊎-elim
+        (λ (q : eqb (at ns 0) (rowsIn (c .tables)) ≡ true). last ns t p (eqb-true (at ns 0) (rowsIn (c .tables)) q))
+        (λ (q : eqb (at ns 0) (rowsIn (c .tables)) ≡ false).
+        absurd (not-both (ending-other size key c s ns t p (eqb-false (at ns 0) (rowsIn (c .tables)) q)) e))
+        (true-or-false (eqb (at ns 0) (rowsIn (c .tables))))
+
+-- how many rows the kinds may have together
+unfoldable pub mostRows : List Kind → ℕ
+mostRows [] = 0
+mostRows (kind ∷ kinds) = kind .limit + mostRows kinds
+
+pub rows-in-most : (kinds : List Kind) (ts : List Rows) → AllFit kinds ts → rowsIn ts ≤ mostRows kinds
+unfolding rowsIn mostRows
+rows-in-most [] [] f = omega arith
+rows-in-most [] (t ∷ ts) f = absurd f
+rows-in-most (kind ∷ kinds) [] f = absurd f
+rows-in-most (kind ∷ kinds) (t ∷ ts) f = let few : t .count ≤ kind .limit = f .0 .few in omega (arith, rows-in-most kinds ts (f .1))
+
+-- a form that can be read: no two keys agree as far as both go, and the number of all rows is a number
+pub record Sound (form : Form) : Type 0 where
+  pub keys : allDiffer (form .kinds) (form .last) ≡ true
+  pub size : mostRows (form .kinds) < bound
+
+-- contents that are written are read again
+pub file-read : (form : Form) → Sound form → (c : Contents) → Within form c → reading form (fileText form c) ≡ got c []
+unfolding reading fileText
+file-read form sound c w =
+    let last : List ℕ = lineText (form .last) (rowsIn (c .tables) ∷ []) in
+    let tail : List ℕ = tablesText (form .kinds) (c .tables) ++ last in
+    let size : ℕ = length (headsText (form .heads) (c .head) ++ tail) in
+    let few : rowsIn (c .tables) ≤ mostRows (form .kinds) = rows-in-most (form .kinds) (c .tables) (w .fit) in
+    let small : rowsIn (c .tables) < bound = omega (arith, sound .size) in
+    let ended : line (form .last) 1 (last ++ []) ≡ found (rowsIn (c .tables) ∷ []) [] =
+    line-text (form .last) (rowsIn (c .tables) ∷ []) [] (below-cons (rowsIn (c .tables)) [] small below-none) in
+    ap (λ o. onward o (λ head s. onward (tables (form .kinds) s) (λ ts t. ending size (form .last) (record { head = head; tables = ts }) t)))
+    (heads-text size (form .heads) (c .head) tail (w .one-each) (w .small))
+    ∙ ap (λ s. onward (tables (form .kinds) (tablesText (form .kinds) (c .tables) ++ s)) (λ ts t. ending size (form .last) (record { head = c .head; tables = ts }) t))
+    (sym (append-nil last))
+    ∙ ap (λ o. onward o (λ ts t. ending size (form .last) (record { head = c .head; tables = ts }) t))
+    (tables-text (form .kinds) (c .tables) (form .last) (rowsIn (c .tables) ∷ []) [] (w .fit) (sound .keys))
+    ∙ ending-on size (form .last) c (last ++ []) (rowsIn (c .tables) ∷ []) [] ended refl
+
+-- a text that is read is the text of what it holds, which is within the limits
+pub record FileBack (form : Form) (text : List ℕ) (c : Contents) : Type 0 where
+  pub written : text ≡ fileText form c
+  pub within : Within form c
+
+pub file-back : (form : Form) (text : List ℕ) (c : Contents) (rest : List ℕ) → reading form text ≡ got c rest → FileBack form text c
+unfolding reading fileText
+file-back form text c rest e =
+    let size : ℕ = length text in
+    let last : List ℕ → List Rows → List ℕ → Outcome Contents = λ head ts t. ending size (form .last) (record { head = head; tables = ts }) t in
+    let h : Onward (heads size (form .heads) text) (λ head s. onward (tables (form .kinds) s) (last head)) c rest =
+    onward-back (heads size (form .heads) text) (λ head s. onward (tables (form .kinds) s) (last head)) c rest e in
+    let t : Onward (tables (form .kinds) (h .rest)) (last (h .value)) c rest =
+    onward-back (tables (form .kinds) (h .rest)) (last (h .value)) c rest (h .then-on) in
+    let d : Contents = record { head = h .value; tables = t .value } in
+    let l : (d ≡ c) × (t .rest ≡ lineText (form .last) (rowsIn (d .tables) ∷ [])) = ending-back size (form .last) d c (t .rest) rest (t .then-on) in
+    let hb : HeadsBack (form .heads) text (h .value) (h .rest) = heads-back size (form .heads) text (h .value) (h .rest) (h .first) in
+    let tb : TablesBack (form .kinds) (h .rest) (t .value) (t .rest) = tables-back (form .kinds) (h .rest) (t .value) (t .rest) (t .first) in
+    subst (FileBack form text) (l .0)
+    (record {
+      written =
+          hb .written
+          ∙ ap (λ u. headsText (form .heads) (h .value) ++ u) (tb .written ∙ ap (λ u. tablesText (form .kinds) (t .value) ++ u) (l .1));
+      within = record { one-each = hb .one-each; small = hb .below; fit = tb .fit };
+    })

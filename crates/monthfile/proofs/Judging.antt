@@ -1,0 +1,120 @@
+-- A whole text judged: the three walks one after the other give what the text holds, or its first refusal.
+-- Assumes nothing.
+use mathlib.Core.Path.{_≡_, refl, sym, ap, ap₂, _∙_, subst}
+use mathlib.Core.Logic.{_≢_}
+use mathlib.Core.List.{List, [], _∷_}
+use Prim.Native.Nat.{ℕ, zero, suc, _^_, _≤_, _<_}
+use native.Mathlib.Nat.{lt-of-le-of-lt}
+use native.Mathlib.Omega.{arith}
+use lib.Dec.{lit<}
+use lib.ListN.{length, getD, drop}
+use Rattle.lists.specs.Sums.{at}
+use Rattle.answer.specs.declared.Answer.{Answer}
+use Rattle.answer.specs.Turns.{accepted}
+use Rattle.monthfile.specs.declared.Reading.{Reading}
+use Rattle.monthfile.specs.declared.judge.Walk.{Walk}
+use Rattle.monthfile.specs.Form.{Kind, monthForm}
+use Rattle.monthfile.specs.Reading.{Outcome, got, refused, Rows, heads, tables, Contents, rowsIn, ending, reading}
+use Rattle.monthfile.specs.Writing.{AllFit}
+use Rattle.monthfile.specs.Calls.{noRows, nth, readAnswer}
+use Rattle.monthfile.specs.Walks.{Walked, Ended, JudgedAs, Body, countsOf, readingOf, addedUp}
+use Rattle.monthfile.proofs.Forms.{heads-back, HeadsBack, tables-back, TablesBack, rows-in-most, mostRows}
+use Rattle.monthfile.proofs.LineWalks.{itself, added-counts, stored-all, reading-heads, reading-tables, reading-on}
+
+-- counts by their place
+pub at-counts : (ts : List Rows) (k : ℕ) → at (countsOf ts) k ≡ nth ts k .count
+at-counts [] k = refl
+at-counts (t ∷ ts) zero = refl
+at-counts (t ∷ ts) (suc k) = at-counts ts k
+
+pub length-fit : (kinds : List Kind) (ts : List Rows) → AllFit kinds ts → length (countsOf ts) ≡ length kinds
+length-fit [] [] f = refl
+length-fit [] (t ∷ ts) f = absurd f
+length-fit (kind ∷ kinds) [] f = absurd f
+length-fit (kind ∷ kinds) (t ∷ ts) f = ap suc (length-fit kinds ts (f .1))
+
+pub month-rows : (ts : List Rows) → AllFit (monthForm .kinds) ts → rowsIn ts < 2 ^ 64
+unfolding mostRows
+month-rows ts f = lt-of-le-of-lt (rows-in-most (monthForm .kinds) ts f) (lit< tt)
+
+-- what `read` answers, by its two lists of numbers
+reading-is : (ns : List ℕ) (ts : List Rows) (rest : List ℕ) → readingOf ns (countsOf ts) ≡ readAnswer (got (record { head = ns; tables = ts }) rest)
+reading-is ns ts rest =
+    λ i.
+    record {
+      answer = accepted;
+      month = at ns 0;
+      days = at ns 1;
+      nonzone = at ns 2;
+      zones = at-counts ts 0 i;
+      owners = at-counts ts 1 i;
+      units = at-counts ts 2 i;
+      accounts = at-counts ts 3 i;
+      loads = at-counts ts 4 i;
+      reservations = at-counts ts 5 i;
+    }
+
+-- a text that is refused
+refused-as : (s : List ℕ) (a : Answer) (held : Reading) (body : ℕ) → reading monthForm s ≡ refused a → a .number ≢ 0 → held ≡ readAnswer (refused a)
+    → JudgedAs s held body
+refused-as s a held body e d q =
+    record {
+      answers = q ∙ ap readAnswer (sym e);
+      holds = λ z. absurd (d (ap (λ (r : Reading). r .answer .number) (sym q) ∙ z));
+    }
+
+module _ (s lent : List ℕ) (w : Walk) (head : List ℕ) (first : Walked s (heads (length s) (monthForm .heads) s) itself lent w head) where
+  pub judged-heads : w .answer .number ≢ 0 → (held : Reading) (body : ℕ) → held ≡ readAnswer (refused (w .answer)) → JudgedAs s held body
+  judged-heads d held body q = refused-as s (w .answer) held body (reading-heads monthForm s (w .answer) (first .stopped d)) d q
+
+  module _ (z : w .answer .number ≡ 0) (lent′ : List ℕ) (v : Walk) (counts : List ℕ)
+      (second : Walked s (tables (monthForm .kinds) (drop (w .at) s)) countsOf lent′ v counts) where
+    abbrev pub ns : List ℕ
+    ns = first .went-on z .0
+
+    pub judged-tables : v .answer .number ≢ 0 → (held : Reading) (body : ℕ) → held ≡ readAnswer (refused (v .answer)) → JudgedAs s held body
+    judged-tables d held body q =
+        refused-as s (v .answer) held body
+        (reading-tables monthForm s ns (drop (w .at) s) (v .answer) (first .went-on z .1) (second .stopped d)) d q
+
+    module _ (y : v .answer .number ≡ 0) (room : length lent′ ≡ 6) where
+      abbrev pub ts : List Rows
+      ts = second .went-on y .0
+
+      back : TablesBack (monthForm .kinds) (drop (w .at) s) ts (drop (v .at) s)
+      back = tables-back (monthForm .kinds) (drop (w .at) s) ts (drop (v .at) s) (second .went-on y .1)
+
+      pub counts-are : counts ≡ countsOf ts
+      counts-are = second .went-on y .2 ∙ stored-all lent′ (countsOf ts) (length-fit (monthForm .kinds) ts (back .fit) ∙ sym room)
+
+      pub counts-small : addedUp counts < 2 ^ 64
+      counts-small = rw (counts-are, added-counts ts) (month-rows ts (back .fit))
+
+      whole : reading monthForm s ≡ ending (length s) (monthForm .last) (record { head = ns; tables = ts }) (drop (v .at) s)
+      whole = reading-on monthForm s ns (drop (w .at) s) ts (drop (v .at) s) (first .went-on z .1) (second .went-on y .1)
+
+      module _ (total : ℕ) (added : total ≡ addedUp counts) (a : Answer) (third : Ended (monthForm .last) s (drop (v .at) s) total a) where
+        rows-are : rowsIn ts ≡ total
+        rows-are = sym (added ∙ ap addedUp counts-are ∙ added-counts ts)
+
+        pub judged-end : a .number ≢ 0 → (held : Reading) (body : ℕ) → held ≡ readAnswer (refused a) → JudgedAs s held body
+        judged-end d held body q =
+            refused-as s a held body (whole ∙ third .stopped d (record { head = ns; tables = ts }) rows-are) d q
+
+        pub judged-fine : a .number ≡ 0 → length lent ≡ 3 → (held : Reading) → held ≡ readingOf head counts → JudgedAs s held (w .at)
+        judged-fine x three held q =
+            let all : reading monthForm s ≡ got (record { head = ns; tables = ts }) [] =
+            whole ∙ third .went-on x (record { head = ns; tables = ts }) rows-are in
+            let hb : HeadsBack (monthForm .heads) s ns (drop (w .at) s) = heads-back (length s) (monthForm .heads) s ns (drop (w .at) s) (first .went-on z .1) in
+            let head-is : head ≡ ns = first .went-on z .2 ∙ stored-all lent ns (hb .one-each ∙ sym three) in
+            record {
+              answers = q ∙ ap₂ readingOf head-is counts-are ∙ reading-is ns ts [] ∙ ap readAnswer (sym all);
+              holds = λ b.
+                  record {
+                    contents = record { head = ns; tables = ts };
+                    rest = drop (v .at) s;
+                    whole = all;
+                    inside = first .inside;
+                    held = second .went-on y .1;
+                  };
+            }

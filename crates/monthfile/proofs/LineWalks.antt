@@ -1,0 +1,304 @@
+-- Walks over first lines and tables: what is left from here on is what was to be read from the start, and where a walk stops.
+-- Assumes nothing.
+use mathlib.Core.Path.{_≡_, refl, sym, ap, ap₂, _∙_, subst}
+use mathlib.Core.Logic.{_≢_}
+use mathlib.Core.List.{List, [], _∷_, _++_, append-assoc, append-nil}
+use Prim.Native.Nat.{ℕ, zero, suc, _+_, _-_, _≤_, _<_}
+use native.Mathlib.Nat.{add-zero, zero-add}
+use native.Mathlib.Omega.{arith}
+use lib.ListN.{length, drop, set, length-drop, length-append}
+use lib.Seq.{drop-length}
+use Rattle.lists.specs.Sums.{at}
+use Rattle.answer.specs.declared.Answer.{Answer}
+use Rattle.answer.specs.Numbers as numbers
+use Rattle.answer.specs.Turns.{accepted, refuse}
+use Rattle.answer.proofs.Turns.{refuse-number}
+use Rattle.tables.specs.Shape.{limit, number}
+use Rattle.tables.specs.declared.Table.the-variants.{Reservations}
+use Rattle.text.specs.Bytes.{bytes}
+use Rattle.text.specs.Numbers.{Found, found, missing}
+use Rattle.text.specs.Lines.{line}
+use Rattle.text.specs.Places.{LineAt, fieldsOf, stored}
+use Rattle.text.proofs.Lines.{Line, line-back}
+use Rattle.text.proofs.Places.{drop-next, drop-end}
+use Rattle.text.proofs.Stores.{stored-none, stored-one, stored-append, stored-is}
+use Rattle.monthfile.specs.declared.row.Counted.{Counted}
+use Rattle.monthfile.specs.declared.judge.Walk.{Walk}
+use Rattle.monthfile.specs.Form.{Kind, Form, kindOf, monthForm, tableAt, headAt}
+use Rattle.monthfile.specs.Reading.{Outcome, got, refused, onward, unfit, Rows, RowsRead, heads, tables, Contents, rowsIn, closed, ending, reading}
+use Rattle.monthfile.specs.Walks.{CountedAt, OneTaken, Walked, Ended, countsOf, addedUp}
+use Rattle.monthfile.proofs.Forms.{heads-none, heads-on, heads-stop, tables-none, tables-on, tables-over, readOf, tableOf, ending-stop, ending-other, ending-on}
+
+-- a refusal's offset is how much has been read
+pub unfit-at : (s : List ℕ) (i : ℕ) → i ≤ length s → unfit (length s) (drop i s) ≡ refuse numbers.TEXT numbers.head i
+unfit-at s i h =
+    let left : length (drop i s) ≡ length s - i = length-drop i s in
+    let e : length s - length (drop i s) ≡ i = omega arith in
+    ap (refuse numbers.TEXT numbers.head) e
+
+onward-same : {E : Type 0} (o : Outcome (List E)) → o ≡ onward o (λ ms u. got ms u)
+onward-same (got a s) = refl
+onward-same (refused r) = refl
+
+-- what was to be read is what was read, stored at the front of a lent list, and what is left
+pub record Walking {E : Type 0} (o left : Outcome (List E)) (kept : List E → List ℕ) (lent current : List ℕ) (k : ℕ) : Type 0 where
+  pub done : List E
+  pub size : length (kept done) ≡ k
+  pub whole : o ≡ onward left (λ ms u. got (done ++ ms) u)
+  pub stored-is : current ≡ stored lent 0 (kept done)
+
+module _ {E : Type 0} (kept : List E → List ℕ) (none : kept [] ≡ []) (more : (x y : List E) → kept (x ++ y) ≡ kept x ++ kept y) where
+  pub walk-start : (o : Outcome (List E)) (lent : List ℕ) → Walking o o kept lent lent 0
+  walk-start o lent =
+      record { done = []; size = ap length none; whole = onward-same o; stored-is = sym (ap (stored lent 0) none ∙ stored-none lent 0) }
+
+  rearrange : (x y : List E) (left : Outcome (List E))
+      → onward (onward left (λ ms u. got (y ++ ms) u)) (λ ms u. got (x ++ ms) u) ≡ onward left (λ ms u. got ((x ++ y) ++ ms) u)
+  rearrange x y (got a s) = ap (λ l. got l s) (sym (append-assoc x y a))
+  rearrange x y (refused r) = refl
+
+  module _ (o left : Outcome (List E)) (lent current : List ℕ) (k : ℕ) (w : Walking o left kept lent current k) where
+    pub walk-next : (es : List E) (left′ : Outcome (List E)) (next : List ℕ) (n : ℕ) → left ≡ onward left′ (λ ms u. got (es ++ ms) u)
+        → next ≡ stored current k (kept es) → k + length (kept es) ≡ n → Walking o left′ kept lent next n
+    walk-next es left′ next n e s q =
+        record {
+          done = w .done ++ es;
+          size = ap length (more (w .done) es) ∙ length-append (kept (w .done)) (kept es) ∙ ap (λ m. m + length (kept es)) (w .size) ∙ q;
+          whole = w .whole ∙ ap (λ l. onward l (λ ms u. got (w .done ++ ms) u)) e ∙ rearrange (w .done) es left′;
+          stored-is =
+              s
+              ∙ ap₂ (λ l m. stored l m (kept es)) (w .stored-is) (sym (zero-add k) ∙ ap (λ m. 0 + m) (sym (w .size)))
+              ∙ sym (stored-append lent 0 (kept (w .done)) (kept es))
+              ∙ ap (stored lent 0) (sym (more (w .done) es));
+        }
+
+    pub walk-stop : (s : List ℕ) (r : Walk) (a : Answer) (after : List ℕ) → left ≡ refused a → r .answer ≡ a → a .number ≢ 0 → r .at ≤ length s
+        → Walked s o kept lent r after
+    walk-stop s r a after e q d h =
+        record {
+          inside = h;
+          stopped = λ b. w .whole ∙ ap (λ l. onward l (λ ms u. got (w .done ++ ms) u)) e ∙ ap refused (sym q);
+          went-on = λ z. absurd (d (ap (λ (b : Answer). b .number) (sym q) ∙ z));
+        }
+
+    pub walk-end : (s : List ℕ) (r : Walk) → left ≡ got [] (drop (r .at) s) → r .answer ≡ accepted → r .at ≤ length s
+        → Walked s o kept lent r current
+    walk-end s r e q h =
+        record {
+          inside = h;
+          stopped = λ d. absurd (d (ap (λ (b : Answer). b .number) q));
+          went-on = λ z. (
+            w .done,
+            w .whole ∙ ap (λ l. onward l (λ ms u. got (w .done ++ ms) u)) e ∙ ap (λ l. got l (drop (r .at) s)) (append-nil (w .done)),
+            w .stored-is,
+            q,
+          );
+        }
+
+-- the first lines and the kinds by their place
+pub heads-at : (k : ℕ) → k < 3 → drop k (monthForm .heads) ≡ headAt k ∷ drop (k + 1) (monthForm .heads)
+heads-at zero h = refl
+heads-at (suc zero) h = refl
+heads-at (suc (suc zero)) h = refl
+heads-at (suc (suc (suc k))) h = absurd (omega arith)
+
+pub heads-over : (k : ℕ) → 3 ≤ k → drop k (monthForm .heads) ≡ []
+heads-over k h = drop-past (monthForm .heads) k h
+  where
+    drop-past : (l : List (List ℕ)) (k : ℕ) → length l ≤ k → drop k l ≡ []
+    drop-past [] zero h = refl
+    drop-past [] (suc k) h = refl
+    drop-past (a ∷ l) zero h = absurd (omega arith)
+    drop-past (a ∷ l) (suc k) h = drop-past l k (omega arith)
+
+pub kinds-at : (k : ℕ) → k < 6 → drop k (monthForm .kinds) ≡ kindOf (tableAt k) ∷ drop (k + 1) (monthForm .kinds)
+kinds-at zero h = refl
+kinds-at (suc zero) h = refl
+kinds-at (suc (suc zero)) h = refl
+kinds-at (suc (suc (suc zero))) h = refl
+kinds-at (suc (suc (suc (suc zero)))) h = refl
+kinds-at (suc (suc (suc (suc (suc zero))))) h = refl
+kinds-at (suc (suc (suc (suc (suc (suc k)))))) h = absurd (omega arith)
+
+pub kinds-over : (k : ℕ) → 6 ≤ k → drop k (monthForm .kinds) ≡ []
+kinds-over k h = drop-past (monthForm .kinds) k h
+  where
+    drop-past : (l : List Kind) (k : ℕ) → length l ≤ k → drop k l ≡ []
+    drop-past [] zero h = refl
+    drop-past [] (suc k) h = refl
+    drop-past (a ∷ l) zero h = absurd (omega arith)
+    drop-past (a ∷ l) (suc k) h = drop-past l k (omega arith)
+
+-- the first lines
+abbrev pub itself : List ℕ → List ℕ
+itself ns = ns
+
+pub itself-more : (x y : List ℕ) → itself (x ++ y) ≡ itself x ++ itself y
+itself-more x y = refl
+
+module _ (s : List ℕ) (o : Outcome (List ℕ)) (lent current : List ℕ) (i k : ℕ)
+    (w : Walking o (heads (length s) (drop k (monthForm .heads)) (drop i s)) itself lent current k) (h : i ≤ length s) where
+  module _ (b : k < 3) (n : ℕ) (next : List ℕ) (t : OneTaken s (line (headAt k) 1 (drop i s)) current k n next) where
+    opened : heads (length s) (drop k (monthForm .heads)) (drop i s) ≡ heads (length s) (headAt k ∷ drop (k + 1) (monthForm .heads)) (drop i s)
+    opened = ap (λ l. heads (length s) l (drop i s)) (heads-at k b)
+
+    pub head-stop : n ≡ 0 → (r : Walk) → (r .answer ≡ refuse numbers.TEXT numbers.head i) × (r .at ≡ i) → (after : List ℕ) → Walked s o itself lent r after
+    head-stop z r q after =
+        walk-stop itself refl itself-more o (heads (length s) (drop k (monthForm .heads)) (drop i s)) lent current k w s r
+        (refuse numbers.TEXT numbers.head i) after
+        (opened ∙ heads-stop (length s) (headAt k) (drop (k + 1) (monthForm .heads)) (drop i s) (t .line-is .unfit z) ∙ ap refused (unfit-at s i h))
+        (q .0) (λ e. let z : 10 ≡ 0 = sym (refuse-number numbers.TEXT numbers.head i) ∙ e in omega arith) (rw (q .1) h)
+
+    pub head-next : n ≢ 0 → Walking o (heads (length s) (drop (k + 1) (monthForm .heads)) (drop n s)) itself lent next (k + 1)
+    head-next d =
+        let ns : List ℕ = t .line-is .fits d .0 in
+        let read : line (headAt k) 1 (drop i s) ≡ found ns (drop n s) = t .line-is .fits d .1 in
+        let one : Line (headAt k) 1 (drop i s) ns (drop n s) = line-back (headAt k) 1 (drop i s) ns (drop n s) read in
+        walk-next itself refl itself-more o (heads (length s) (drop k (monthForm .heads)) (drop i s)) lent current k w ns
+        (heads (length s) (drop (k + 1) (monthForm .heads)) (drop n s)) next (k + 1)
+        (opened ∙ heads-on (length s) (headAt k) (drop (k + 1) (monthForm .heads)) (drop i s) ns (drop n s) read)
+        (t .written ∙ ap (λ f. stored current k (fieldsOf f)) read)
+        (ap (λ m. k + m) (one .width-is))
+
+  pub head-end : 3 ≤ k → (r : Walk) → (r .answer ≡ accepted) × (r .at ≡ i) → Walked s o itself lent r current
+  head-end b r q =
+      walk-end itself refl itself-more o (heads (length s) (drop k (monthForm .heads)) (drop i s)) lent current k w s r
+      (ap (λ l. heads (length s) l (drop i s)) (heads-over k b) ∙ heads-none (length s) (drop i s) ∙ ap (λ j. got [] (drop j s)) (sym (q .1)))
+      (q .0) (rw (q .1) h)
+
+-- the tables
+pub counts-more : (x y : List Rows) → countsOf (x ++ y) ≡ countsOf x ++ countsOf y
+counts-more [] y = refl
+counts-more (t ∷ x) y = ap (λ l. t .count ∷ l) (counts-more x y)
+
+pub added-counts : (ts : List Rows) → addedUp (countsOf ts) ≡ rowsIn ts
+unfolding addedUp rowsIn
+added-counts [] = refl
+added-counts (t ∷ ts) = ap (λ n. t .count + n) (added-counts ts)
+
+module _ (s : List ℕ) (o : Outcome (List Rows)) (lent current : List ℕ) (i k : ℕ)
+    (w : Walking o (tables (drop k (monthForm .kinds)) (drop i s)) countsOf lent current k) (h : i ≤ length s) where
+  module _ (b : k < 6) (c : Counted) (t : CountedAt s (readOf (kindOf (tableAt k)) (drop i s)) c) where
+    opened-kind : tables (drop k (monthForm .kinds)) (drop i s) ≡ tables (kindOf (tableAt k) ∷ drop (k + 1) (monthForm .kinds)) (drop i s)
+    opened-kind = ap (λ l. tables l (drop i s)) (kinds-at k b)
+
+    pub table-stop : limit (tableAt k) < c .count → (r : Walk)
+        → r .answer ≡ refuse numbers.COUNT (number (tableAt k)) (limit (tableAt k)) → r .at ≤ length s → (after : List ℕ) → Walked s o countsOf lent r after
+    table-stop over r q p after =
+        let many : limit (tableAt k) < readOf (kindOf (tableAt k)) (drop i s) .count = rw (t .count-is) over in
+        walk-stop countsOf refl counts-more o (tables (drop k (monthForm .kinds)) (drop i s)) lent current k w s r
+        (refuse numbers.COUNT (number (tableAt k)) (limit (tableAt k))) after
+        (opened-kind ∙ tables-over (kindOf (tableAt k)) (drop (k + 1) (monthForm .kinds)) (drop i s) many)
+        q (λ e. let z : 1 ≡ 0 = sym (refuse-number numbers.COUNT (number (tableAt k)) (limit (tableAt k))) ∙ e in omega arith) p
+
+    pub table-next : c .count ≤ limit (tableAt k)
+        → Walking o (tables (drop (k + 1) (monthForm .kinds)) (drop (c .next) s)) countsOf lent (set current k (c .count)) (k + 1)
+    table-next fine =
+        let few : readOf (kindOf (tableAt k)) (drop i s) .count ≤ limit (tableAt k) = rw (t .count-is) fine in
+        let one : Rows = tableOf (readOf (kindOf (tableAt k)) (drop i s)) in
+        walk-next countsOf refl counts-more o (tables (drop k (monthForm .kinds)) (drop i s)) lent current k w (one ∷ [])
+        (tables (drop (k + 1) (monthForm .kinds)) (drop (c .next) s)) (set current k (c .count)) (k + 1)
+        (opened-kind ∙ tables-on (kindOf (tableAt k)) (drop (k + 1) (monthForm .kinds)) (drop i s) few
+        ∙ ap (λ l. onward (tables (drop (k + 1) (monthForm .kinds)) l) (λ ts u. got (one ∷ ts) u)) (t .behind))
+        (sym (stored-one current k (c .count)) ∙ ap (λ m. stored current k (m ∷ [])) (sym (t .count-is)))
+        refl
+
+  pub table-end : 6 ≤ k → (r : Walk) → (r .answer ≡ accepted) × (r .at ≡ i) → Walked s o countsOf lent r current
+  table-end b r q =
+      walk-end countsOf refl counts-more o (tables (drop k (monthForm .kinds)) (drop i s)) lent current k w s r
+      (ap (λ l. tables l (drop i s)) (kinds-over k b) ∙ tables-none (drop i s) ∙ ap (λ j. got [] (drop j s)) (sym (q .1)))
+      (q .0) (rw (q .1) h)
+
+-- a lent list that is filled whole
+pub stored-all : (l vs : List ℕ) → length vs ≡ length l → stored l 0 vs ≡ vs
+stored-all l vs e =
+    stored-is l 0 vs (omega arith)
+    ∙ ap (λ m. vs ++ drop m l) (zero-add (length vs) ∙ e)
+    ∙ ap (λ t. vs ++ t) (drop-length l)
+    ∙ append-nil vs
+
+-- the last line
+module _ (key s : List ℕ) (i total : ℕ) (h : i ≤ length s) (current : List ℕ) (n : ℕ) (next : List ℕ)
+    (t : OneTaken s (line key 1 (drop i s)) current 0 n next) (one-word : length current ≡ 1) where
+  not-fit : ((c : Contents) → rowsIn (c .tables) ≡ total → ending (length s) key c (drop i s) ≡ refused (unfit (length s) (drop i s)))
+      → (a : Answer) → a ≡ refuse numbers.TEXT numbers.head i → Ended key s (drop i s) total a
+  not-fit e a q =
+      record {
+        stopped = λ d c r. e c r ∙ ap refused (unfit-at s i h ∙ sym q);
+        went-on = λ z. absurd (let y : 10 ≡ 0 = sym (ap (λ (b : Answer). b .number) q ∙ refuse-number numbers.TEXT numbers.head i) ∙ z in omega arith);
+      }
+
+  pub end-missing : n ≡ 0 → (a : Answer) → a ≡ refuse numbers.TEXT numbers.head i → Ended key s (drop i s) total a
+  end-missing z a q = not-fit (λ c r. ending-stop (length s) key c (drop i s) (t .line-is .unfit z)) a q
+
+  module _ (d : n ≢ 0) where
+    read-is : line key 1 (drop i s) ≡ found (t .line-is .fits d .0) (drop n s)
+    read-is = t .line-is .fits d .1
+
+    value-is : next ≡ t .line-is .fits d .0
+    value-is =
+        let one : Line key 1 (drop i s) (t .line-is .fits d .0) (drop n s) = line-back key 1 (drop i s) (t .line-is .fits d .0) (drop n s) read-is in
+        t .written ∙ ap (λ f. stored current 0 (fieldsOf f)) read-is
+        ∙ stored-all current (t .line-is .fits d .0) (one .width-is ∙ sym one-word)
+
+    pub end-other : at next 0 ≢ total → (a : Answer) → a ≡ refuse numbers.TEXT numbers.head i → Ended key s (drop i s) total a
+    end-other x a q =
+        not-fit (λ c r. ending-other (length s) key c (drop i s) (t .line-is .fits d .0) (drop n s) read-is
+        (λ e. x (ap (λ l. at l 0) value-is ∙ e ∙ r))) a q
+
+    ends : at next 0 ≡ total → (c : Contents) → rowsIn (c .tables) ≡ total → ending (length s) key c (drop i s) ≡ closed (length s) c (drop n s)
+    ends x c r =
+        ending-on (length s) key c (drop i s) (t .line-is .fits d .0) (drop n s) read-is (ap (λ l. at l 0) (sym value-is) ∙ x ∙ sym r)
+
+    pub end-behind : at next 0 ≡ total → n < length s → (a : Answer) → a ≡ refuse numbers.TEXT numbers.head n → Ended key s (drop i s) total a
+    end-behind x b a q =
+        record {
+          stopped = λ y c r. ends x c r ∙ ap (closed (length s) c) (drop-next s n b)
+              ∙ ap (λ l. refused (unfit (length s) l)) (sym (drop-next s n b)) ∙ ap refused (unfit-at s n (omega arith) ∙ sym q);
+          went-on = λ z. absurd (let y : 10 ≡ 0 = sym (ap (λ (b : Answer). b .number) q ∙ refuse-number numbers.TEXT numbers.head n) ∙ z in omega arith);
+        }
+
+    pub end-fine : at next 0 ≡ total → length s ≤ n → (a : Answer) → a .number ≡ 0 → Ended key s (drop i s) total a
+    end-fine x b a q =
+        record {
+          stopped = λ y. absurd (y q);
+          went-on = λ z c r. ends x c r ∙ ap (closed (length s) c) (drop-end s n b);
+        }
+
+-- a whole text from its parts
+module _ (form : Form) (s : List ℕ) where
+  pub reading-heads : (a : Answer) → heads (length s) (form .heads) s ≡ refused a → reading form s ≡ refused a
+  unfolding reading
+  reading-heads a e = rw e
+
+  pub reading-tables : (ns t : List ℕ) (a : Answer) → heads (length s) (form .heads) s ≡ got ns t → tables (form .kinds) t ≡ refused a → reading form s ≡ refused a
+  unfolding reading
+  reading-tables ns t a e q = rw (e, q)
+
+  pub reading-on : (ns t : List ℕ) (ts : List Rows) (u : List ℕ) → heads (length s) (form .heads) s ≡ got ns t → tables (form .kinds) t ≡ got ts u
+      → reading form s ≡ ending (length s) (form .last) (record { head = ns; tables = ts }) u
+  unfolding reading
+  reading-on ns t ts u e q = rw (e, q)
+
+-- numbers added up one after the other
+pub added-next : (l : List ℕ) (k : ℕ) → k < length l → addedUp (drop k l) ≡ at l k + addedUp (drop (k + 1) l)
+unfolding addedUp
+added-next l k h = ap addedUp (drop-next l k h)
+
+pub added-end : (l : List ℕ) (k : ℕ) → length l ≤ k → addedUp (drop k l) ≡ 0
+unfolding addedUp
+added-end l k h = ap addedUp (drop-end l k h)
+
+-- the last arms of the two tables by place
+pub reservations-at : (k : ℕ) → k ≢ 0 → k ≢ 1 → k ≢ 2 → k ≢ 3 → k ≢ 4 → Reservations ≡ tableAt k
+reservations-at zero a b c d e = absurd (a refl)
+reservations-at (suc zero) a b c d e = absurd (b refl)
+reservations-at (suc (suc zero)) a b c d e = absurd (c refl)
+reservations-at (suc (suc (suc zero))) a b c d e = absurd (d refl)
+reservations-at (suc (suc (suc (suc zero)))) a b c d e = absurd (e refl)
+reservations-at (suc (suc (suc (suc (suc k))))) a b c d e = refl
+
+pub nonzone-at : (k : ℕ) → k ≢ 0 → k ≢ 1 → bytes "nonzone" ≡ headAt k
+nonzone-at zero a b = absurd (a refl)
+nonzone-at (suc zero) a b = absurd (b refl)
+nonzone-at (suc (suc k)) a b = refl

@@ -1,0 +1,122 @@
+-- Rows, first lines and tables read as their text, and what reads so is their text: for every form.
+-- Assumes nothing.
+use mathlib.Core.Path.{_≡_, refl, sym, ap, ap₂, _∙_, subst}
+use mathlib.Core.Logic.{_⊎_, inl, inr, ⊎-elim, _≢_}
+use mathlib.Core.Bool.{Bool, true, false, cond, true≢false}
+use mathlib.Core.List.{List, [], _∷_, _++_, append-assoc, append-nil}
+use Prim.Native.Nat.{ℕ, zero, suc, _+_, _-_, _*_, _≤_, _<_}
+use native.Mathlib.Nat.{suc-mul, zero-mul}
+use native.Mathlib.Omega.{arith}
+use lib.Dec.{ltb, eqb}
+use lib.ListN.{length, take, drop, length-append, take-append-drop, length-drop}
+use lib.Seq.{length-take-le, take-at, drop-at}
+use borrow.Author.Tests.{lt-ltb, le-ltb, eq-eqb, ne-eqb, ltb-true, ltb-false, eqb-true, eqb-false}
+use Rattle.lists.specs.Sums.{at}
+use Rattle.lists.proofs.Ranks.{true-or-false, lt-or-le}
+use Rattle.answer.specs.declared.Answer.{Answer}
+use Rattle.text.specs.Numbers.{Found, found, missing, bound, Below}
+use Rattle.text.specs.Lines.{equals, apart, line, lineText}
+use Rattle.text.proofs.Numbers.{never}
+use Rattle.text.proofs.Below.{below-none, below-append, below-take, below-drop}
+use Rattle.text.proofs.Lines.{line-text, line-back, Line, line-apart}
+use Rattle.monthfile.specs.Form.{Kind, Form}
+use Rattle.monthfile.specs.Reading.{Outcome, got, refused, onward, Rows, RowsRead, rowsFrom, rows, headFrom, heads, tableFrom, tables, Contents, rowsIn, ending, reading}
+use Rattle.monthfile.specs.Writing.{rowsText, headsText, tablesText, fileText, Fits, AllFit, Within}
+
+pub rows-none : (key : List ℕ) (width : ℕ) (s : List ℕ) → rows key width 0 s ≡ record { count = 0; words = []; rest = s }
+unfolding rows
+rows-none key width s = refl
+
+pub rows-stop : (key : List ℕ) (width : ℕ) (most : ℕ) (s : List ℕ) → line key width s ≡ missing → rows key width (suc most) s ≡ record { count = 0; words = []; rest = s }
+unfolding rows
+rows-stop key width most s e = rw e
+
+-- a row in front of others
+abbrev pub withRow : List ℕ → RowsRead → RowsRead
+withRow ns r = record { count = suc (r .count); words = ns ++ r .words; rest = r .rest }
+
+pub rows-on : (key : List ℕ) (width : ℕ) (most : ℕ) (s ns t : List ℕ) → line key width s ≡ found ns t → rows key width (suc most) s ≡ withRow ns (rows key width most t)
+unfolding rows
+rows-on key width most s ns t e = rw e
+
+empty : (l : List ℕ) → length l ≡ 0 → l ≡ []
+empty [] e = refl
+empty (a ∷ l) e = absurd (let z : suc (length l) ≡ 0 = e in omega arith)
+
+-- rows that are written are read again, where no further row follows
+pub rows-text : (key : List ℕ) (width : ℕ) (n most : ℕ) (words rest : List ℕ) → n ≤ most → length words ≡ n * width → Below words
+    → line key width rest ≡ missing → rows key width (suc most) (rowsText key width n words ++ rest) ≡ record { count = n; words = words; rest = rest }
+unfolding rowsText
+rows-text key width zero most words rest l e h end =
+    rows-stop key width most rest end
+    ∙ ap (λ ws. record { count = 0; words = ws; rest = rest }) (sym (empty words (e ∙ zero-mul width)))
+rows-text key width (suc n) zero words rest l e h end = absurd (omega arith)
+rows-text key width (suc n) (suc most) words rest l e h end =
+    let size : length words ≡ n * width + width = e ∙ suc-mul n width in
+    let first : List ℕ = take width words in
+    let later : List ℕ = rowsText key width n (drop width words) ++ rest in
+    let wide : length first ≡ width = length-take-le width words (omega arith) in
+    let one : line key width (lineText key first ++ later) ≡ found first later =
+    ap (λ w. line key w (lineText key first ++ later)) (sym wide)
+    ∙ line-text key first later (below-take width words h) in
+    ap (rows key width (suc (suc most))) (append-assoc (lineText key first) (rowsText key width n (drop width words)) rest)
+    ∙ rows-on key width (suc most) (lineText key first ++ later) first later one
+    ∙ ap (withRow first)
+    (rows-text key width n most (drop width words) rest (omega arith)
+    (length-drop width words ∙ (let d : length words - width ≡ n * width = omega arith in d))
+    (below-drop width words h) end)
+    ∙ ap (λ ws. record { count = suc n; words = ws; rest = rest }) (take-append-drop width words)
+
+-- rows that were read are whole, of small numbers, and their text stood there
+pub record RowsBack (key : List ℕ) (width : ℕ) (s : List ℕ) (r : RowsRead) : Type 0 where
+  pub written : s ≡ rowsText key width (r .count) (r .words) ++ r .rest
+  pub whole : length (r .words) ≡ r .count * width
+  pub below : Below (r .words)
+
+back-none : (key : List ℕ) (width : ℕ) (s : List ℕ) → RowsBack key width s (record { count = 0; words = []; rest = s })
+unfolding rowsText
+back-none key width s = record { written = refl; whole = sym (zero-mul width); below = below-none }
+
+back-on : (key : List ℕ) (width : ℕ) (s ns t : List ℕ) (r : RowsRead) → line key width s ≡ found ns t → RowsBack key width t r → RowsBack key width s (withRow ns r)
+unfolding rowsText
+back-on key width s ns t r e b =
+    let one : Line key width s ns t = line-back key width s ns t e in
+    record {
+      written =
+          one .written
+          ∙ ap (λ u. lineText key ns ++ u) (b .written)
+          ∙ sym (append-assoc (lineText key ns) (rowsText key width (r .count) (r .words)) (r .rest))
+          ∙ ap₂ (λ x y. (lineText key x ++ rowsText key width (r .count) y) ++ r .rest)
+          (sym (take-at ns (r .words) width (one .width-is)))
+          (sym (drop-at ns (r .words) width (one .width-is)));
+      whole =
+          length-append ns (r .words)
+          ∙ ap₂ _+_ (one .width-is) (b .whole)
+          ∙ (let q : width + r .count * width ≡ r .count * width + width = omega arith in q)
+          ∙ sym (suc-mul (r .count) width);
+      below = below-append ns (r .words) (one .below) (b .below);
+    }
+
+pub rows-back : (key : List ℕ) (width : ℕ) (most : ℕ) (s : List ℕ) → RowsBack key width s (rows key width most s)
+rows-back key width zero s = subst (RowsBack key width s) (sym (rows-none key width s)) (back-none key width s)
+rows-back key width (suc most) s = go (line key width s) refl (rows-back key width most)
+  where
+    go : (o : Found (List ℕ)) → line key width s ≡ o → ((t : List ℕ) → RowsBack key width t (rows key width most t)) → RowsBack key width s (rows key width (suc most) s)
+    go missing e more = subst (RowsBack key width s) (sym (rows-stop key width most s e)) (back-none key width s)
+    go (found ns t) e more =
+        subst (RowsBack key width s) (sym (rows-on key width most s ns t e)) (back-on key width s ns t (rows key width most t) e (more t))
+
+-- reading exactly as many rows as there are gives the same
+pub rows-exact : (key : List ℕ) (width : ℕ) (most : ℕ) (s : List ℕ) → rows key width (rows key width most s .count) s ≡ rows key width most s
+rows-exact key width zero s = ap (λ (r : RowsRead). rows key width (r .count) s) (rows-none key width s)
+rows-exact key width (suc most) s = go (line key width s) refl (rows-exact key width most)
+  where
+    go : (o : Found (List ℕ)) → line key width s ≡ o → ((t : List ℕ) → rows key width (rows key width most t .count) t ≡ rows key width most t)
+        → rows key width (rows key width (suc most) s .count) s ≡ rows key width (suc most) s
+    go missing e more =
+        ap (λ (r : RowsRead). rows key width (r .count) s) (rows-stop key width most s e) ∙ rows-none key width s ∙ sym (rows-stop key width most s e)
+    go (found ns t) e more =
+        ap (λ (r : RowsRead). rows key width (r .count) s) (rows-on key width most s ns t e)
+        ∙ rows-on key width (rows key width most t .count) s ns t e
+        ∙ ap (withRow ns) (more t)
+        ∙ sym (rows-on key width most s ns t e)

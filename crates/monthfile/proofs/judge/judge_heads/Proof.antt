@@ -1,0 +1,98 @@
+use mathlib.Core.Path.{_≡_, refl, sym, ap, _∙_}
+use mathlib.Core.Logic.{⊎-elim}
+use Prim.Native.Nat.{ℕ, zero, suc, _≤_, _<_, _+_, _*_, _/_, _%_, _-_, _^_, min}
+use native.Mathlib.Numerals.{add-one}
+use native.Mathlib.Omega.{arith}
+use lib.ListN.{length, drop}
+use Rattle.monthfile.specs.Form.{monthForm}
+use Rattle.monthfile.specs.Reading.{heads}
+use Rattle.monthfile.proofs.LineWalks.{Walking, walk-start, itself, itself-more, head-stop, head-next, head-end}
+use borrow.Author.Needs.{needs}
+use Rattle.monthfile.proofs.judge.judge_heads.Statement.{statement}
+use Rattle.monthfile.proofs.judge.judge_heads.Tie as tie
+use Rattle.monthfile.proofs.judge.judge_heads.Reads as reads
+use Rattle.monthfile.proofs.judge.judge_heads.Lts as lts
+use Rattle.monthfile.proofs.judge.fine.Reads as fine-reads
+use Rattle.monthfile.proofs.judge.head_line.Reads as head-line-reads
+use Rattle.monthfile.proofs.judge.unfit.Reads as unfit-reads
+
+abbrev Inv-loop : tie.InvT-loop
+Inv-loop text head₀ i₀ k₀ head i k =
+    (i ≤ length text) × (k ≤ 3) × (length head ≡ length head₀)
+    × Walking (heads (length text) (monthForm .heads) text) (heads (length text) (drop k (monthForm .heads)) (drop i text)) itself head₀ head k
+
+abbrev μ-loop : tie.MeasureT-loop
+μ-loop text head₀ i₀ k₀ head i k = 3 - k
+
+-- src/judge.rt:86:5
+loop-holds : tie.Need-loop-holds Inv-loop μ-loop
+loop-holds c = (omega arith, omega arith, refl, walk-start itself refl itself-more _ _)
+
+-- src/judge.rt:87:13
+head-line-requires : tie.Need-head-line-requires Inv-loop μ-loop
+head-line-requires c κs = omega (arith, c .before .before .loop .inv .2, c .before .before .before .before .before .pre)
+
+-- src/judge.rt:89:13
+unfit-requires : tie.Need-unfit-requires Inv-loop μ-loop
+unfit-requires c κs = search needs
+
+-- src/judge.rt:89:13
+same-length : tie.Need-same-length Inv-loop μ-loop
+same-length c = c .before .before .before .before .head-line .kept .1 .1 .1 .0 ∙ c .before .before .before .before .before .before .before .loop .inv .2
+
+-- src/judge.rt:89:13
+returns : tie.Need-returns Inv-loop μ-loop
+returns c =
+    head-stop (c .before .before .before .before .before .before .before .before .before .before .args .text .now) _ (c .before .before .before .before .before .before .before .before .before .before .args .head .now) (c .before .before .before .before .before .before .before .loop .head) (c .before .before .before .before .before .before .before .loop .i) (c .before .before .before .before .before .before .before .loop .k) (c .before .before .before .before .before .before .before .loop .inv .3) (c .before .before .before .before .before .before .before .loop .inv .0) (c .before .before .before .before .before .before .loop-test .taken)
+    (c .before .before .before .before .head-line .result) (c .before .before .before .before .head-line .last .1 .1 .1 .0) (c .before .before .before .before .head-line .ensures) (c .before .if1 .taken) (c .unfit .result) (c .unfit .ensures) _
+
+-- src/judge.rt:92:9
+add-k : tie.Need-add-k Inv-loop μ-loop
+add-k c = search needs
+
+-- src/judge.rt:86:5
+loop-less : tie.Need-loop-less Inv-loop μ-loop
+loop-less c = search needs
+
+-- src/judge.rt:86:5
+loop-again : tie.Need-loop-again Inv-loop μ-loop
+loop-again c = (
+  c .before .before .before .head-line .ensures .line-is .inside,
+  omega arith,
+  c .before .before .before .head-line .kept .1 .1 .1 .0 ∙ c .before .before .before .before .before .before .loop .inv .2,
+  head-next (c .before .before .before .before .before .before .before .before .before .args .text .now) _ (c .before .before .before .before .before .before .before .before .before .args .head .now) (c .before .before .before .before .before .before .loop .head) (c .before .before .before .before .before .before .loop .i) (c .before .before .before .before .before .before .loop .k) (c .before .before .before .before .before .before .loop .inv .3) (c .before .before .before .before .before .before .loop .inv .0) (c .before .before .before .before .before .loop-test .taken)
+      (c .before .before .before .head-line .result) (c .before .before .before .head-line .last .1 .1 .1 .0) (c .before .before .before .head-line .ensures) (c .if1 .left),
+)
+
+-- src/judge.rt:94:5
+fine-requires : tie.Need-fine-requires Inv-loop μ-loop
+fine-requires c κs = search needs
+
+-- src/judge.rt:80:1
+same-length-2 : tie.Need-same-length-2 Inv-loop μ-loop
+same-length-2 c = c .before .before .loop .inv .2
+
+-- src/judge.rt:80:1
+returns-2 : tie.Need-returns-2 Inv-loop μ-loop
+returns-2 c =
+    let a = c .before .before .before .before .before .args in
+    let l = c .before .before .loop in
+    head-end (a .text .now) _ (a .head .now) (l .head) (l .i) (l .k) (l .inv .3) (l .inv .0) (c .before .loop-test .left) (c .fine .result) (c .fine .ensures)
+
+pub judge-heads-spec : {M : Type 1} → statement M
+judge-heads-spec =
+    tie.close
+    (tie.spec
+    Inv-loop
+    μ-loop
+    loop-holds
+    head-line-requires
+    unfit-requires
+    same-length
+    returns
+    add-k
+    loop-less
+    loop-again
+    fine-requires
+    same-length-2
+    returns-2)

@@ -1,0 +1,138 @@
+use mathlib.Core.Path.{_≡_, refl, sym, ap, _∙_}
+use mathlib.Core.Logic.{⊎-elim}
+use Prim.Native.Nat.{ℕ, zero, suc, _≤_, _<_, _+_, _*_, _/_, _%_, _-_, _^_, min}
+use native.Mathlib.Numerals.{add-one}
+use native.Mathlib.Omega.{arith}
+use lib.ListN.{length, drop, length-set}
+use mathlib.Core.Path.{subst, ap₂}
+use Rattle.answer.specs.Turns.{refuse}
+use Rattle.tables.specs.Shape.{number, width, limit}
+use Rattle.monthfile.specs.Form.{key, monthForm, tableAt}
+use Rattle.monthfile.specs.Reading.{rows, tables}
+use Rattle.monthfile.specs.Walks.{CountedAt, countsOf}
+use Rattle.monthfile.proofs.LineWalks.{Walking, walk-start, counts-more, table-stop, table-next, table-end}
+use borrow.Author.Needs.{needs}
+use Rattle.monthfile.proofs.judge.judge_tables.Statement.{statement}
+use Rattle.monthfile.proofs.judge.judge_tables.Tie as tie
+use Rattle.monthfile.proofs.judge.judge_tables.Reads as reads
+use Rattle.monthfile.proofs.judge.judge_tables.Lts as lts
+use Rattle.answer.proofs.refused.Reads as refused-reads
+use Rattle.monthfile.proofs.judge.count_table.Reads as count-table-reads
+use Rattle.monthfile.proofs.judge.fine.Reads as fine-reads
+use Rattle.monthfile.proofs.judge.table_of.Reads as table-of-reads
+use Rattle.tables.proofs.limit.Reads as limit-reads
+use Rattle.tables.proofs.number.Reads as number-reads
+
+abbrev Inv-loop : tie.InvT-loop
+Inv-loop text at counts₀ i₀ k₀ counts i k =
+    (i ≤ length text) × (k ≤ 6) × (length counts ≡ length counts₀)
+    × Walking (tables (monthForm .kinds) (drop at text)) (tables (drop k (monthForm .kinds)) (drop i text)) countsOf counts₀ counts k
+
+abbrev μ-loop : tie.MeasureT-loop
+μ-loop text at counts₀ i₀ k₀ counts i k = 6 - k
+
+-- src/judge.rt:133:5
+loop-holds : tie.Need-loop-holds Inv-loop μ-loop
+loop-holds c = (c .before .before .pre .0, omega arith, refl, walk-start countsOf refl counts-more _ _)
+
+-- src/judge.rt:134:13
+table-of-requires : tie.Need-table-of-requires Inv-loop μ-loop
+table-of-requires c κs = search needs
+
+-- src/judge.rt:135:13
+limit-requires : tie.Need-limit-requires Inv-loop μ-loop
+limit-requires c κs = search needs
+
+-- src/judge.rt:136:13
+count-table-requires : tie.Need-count-table-requires Inv-loop μ-loop
+count-table-requires c κs = c .before .before .before .loop .inv .0
+
+-- src/judge.rt:140:56
+number-requires : tie.Need-number-requires Inv-loop μ-loop
+number-requires c κs = search needs
+
+-- src/judge.rt:140:25
+refused-requires : tie.Need-refused-requires Inv-loop μ-loop
+refused-requires c κs = search needs
+
+-- src/judge.rt:139:13
+same-length : tie.Need-same-length Inv-loop μ-loop
+same-length c = c .before .before .before .before .before .before .before .loop .inv .2
+
+-- src/judge.rt:139:13
+returns : tie.Need-returns Inv-loop μ-loop
+returns c =
+    let counted = subst (λ t. CountedAt (c .before .before .before .before .before .before .before .before .before .before .args .text .now) (rows (key t) (width t) (suc (limit t)) (drop (c .before .before .before .before .before .before .before .loop .i) (c .before .before .before .before .before .before .before .before .before .before .args .text .now))) (c .before .before .before .count-table .result))
+    (c .before .before .before .before .before .table-of .ensures) (c .before .before .before .count-table .ensures) in
+    let most : c .before .before .before .before .limit .result ≡ limit (tableAt (c .before .before .before .before .before .before .before .loop .k)) = (c .before .before .before .before .limit .ensures ∙ ap limit (c .before .before .before .before .before .table-of .ensures)) in
+    let called : c .before .number .result ≡ number (tableAt (c .before .before .before .before .before .before .before .loop .k)) = c .before .number .ensures ∙ ap number (c .before .before .before .before .before .table-of .ensures) in
+    table-stop (c .before .before .before .before .before .before .before .before .before .before .args .text .now) _ (c .before .before .before .before .before .before .before .before .before .before .args .counts .now) (c .before .before .before .before .before .before .before .loop .counts) (c .before .before .before .before .before .before .before .loop .i) (c .before .before .before .before .before .before .before .loop .k) (c .before .before .before .before .before .before .before .loop .inv .3) (c .before .before .before .before .before .before .before .loop .inv .0) (c .before .before .before .before .before .before .loop-test .taken)
+    (c .before .before .before .count-table .result) counted (subst (λ m. m < c .before .before .before .count-table .result .count) most (c .before .before .if1 .taken))
+    _ (c .refused .ensures ∙ ap₂ (refuse 1) called most) (c .before .before .before .before .before .before .before .loop .inv .0) _
+
+-- src/judge.rt:144:9
+mul-counts : tie.Need-mul-counts Inv-loop μ-loop
+mul-counts c = omega arith
+
+-- src/judge.rt:144:9
+slice-write-counts : tie.Need-slice-write-counts Inv-loop μ-loop
+slice-write-counts c = omega (arith, c .before .before .before .before .before .loop .inv .2, c .before .before .before .before .before .before .before .before .pre .1)
+
+-- src/judge.rt:146:9
+add-k : tie.Need-add-k Inv-loop μ-loop
+add-k c = search needs
+
+-- src/judge.rt:133:5
+loop-less : tie.Need-loop-less Inv-loop μ-loop
+loop-less c = search needs
+
+-- src/judge.rt:133:5
+loop-again : tie.Need-loop-again Inv-loop μ-loop
+loop-again c =
+    let counted = subst (λ t. CountedAt (c .before .before .before .before .before .before .before .before .args .text .now) (rows (key t) (width t) (suc (limit t)) (drop (c .before .before .before .before .before .loop .i) (c .before .before .before .before .before .before .before .before .args .text .now))) (c .before .count-table .result))
+    (c .before .before .before .table-of .ensures) (c .before .count-table .ensures) in
+    let most : c .before .before .limit .result ≡ limit (tableAt (c .before .before .before .before .before .loop .k)) = (c .before .before .limit .ensures ∙ ap limit (c .before .before .before .table-of .ensures)) in (
+      c .before .count-table .ensures .inside,
+      omega arith,
+      length-set (c .before .before .before .before .before .loop .counts) (c .before .before .before .before .before .loop .k) (c .before .count-table .result .count) ∙ c .before .before .before .before .before .loop .inv .2,
+      table-next (c .before .before .before .before .before .before .before .before .args .text .now) _ (c .before .before .before .before .before .before .before .before .args .counts .now) (c .before .before .before .before .before .loop .counts) (c .before .before .before .before .before .loop .i) (c .before .before .before .before .before .loop .k) (c .before .before .before .before .before .loop .inv .3) (c .before .before .before .before .before .loop .inv .0) (c .before .before .before .before .loop-test .taken)
+          (c .before .count-table .result) counted (subst (λ m. c .before .count-table .result .count ≤ m) most (c .if1 .left)),
+    )
+
+-- src/judge.rt:148:5
+fine-requires : tie.Need-fine-requires Inv-loop μ-loop
+fine-requires c κs = search needs
+
+-- src/judge.rt:127:1
+same-length-2 : tie.Need-same-length-2 Inv-loop μ-loop
+same-length-2 c = c .before .before .loop .inv .2
+
+-- src/judge.rt:127:1
+returns-2 : tie.Need-returns-2 Inv-loop μ-loop
+returns-2 c =
+    let a = c .before .before .before .before .before .args in
+    let l = c .before .before .loop in
+    table-end (a .text .now) _ (a .counts .now) (l .counts) (l .i) (l .k) (l .inv .3) (l .inv .0) (c .before .loop-test .left) (c .fine .result) (c .fine .ensures)
+
+pub judge-tables-spec : {M : Type 1} → statement M
+judge-tables-spec =
+    tie.close
+    (tie.spec
+    Inv-loop
+    μ-loop
+    loop-holds
+    table-of-requires
+    limit-requires
+    count-table-requires
+    number-requires
+    refused-requires
+    same-length
+    returns
+    mul-counts
+    slice-write-counts
+    add-k
+    loop-less
+    loop-again
+    fine-requires
+    same-length-2
+    returns-2)

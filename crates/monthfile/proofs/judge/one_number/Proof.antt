@@ -1,0 +1,48 @@
+use mathlib.Core.Path.{_≡_, refl, sym, ap, _∙_}
+use mathlib.Core.Logic.{⊎-elim}
+use Prim.Native.Nat.{ℕ, zero, suc, _≤_, _<_, _+_, _*_, _/_, _%_, _-_, _^_, min}
+use native.Mathlib.Numerals.{add-one}
+use native.Mathlib.Omega.{arith}
+use mathlib.Core.Path.{subst}
+use Rattle.text.specs.Places.{LineAt, fieldsOf, stored}
+use Rattle.text.proofs.Numbers.{never}
+use Rattle.text.proofs.Stores.{stored-none}
+use borrow.Author.Needs.{needs}
+use Rattle.monthfile.proofs.judge.one_number.Statement.{statement}
+use Rattle.monthfile.proofs.judge.one_number.Tie as tie
+use Rattle.monthfile.proofs.judge.one_number.Reads as reads
+use Rattle.monthfile.proofs.judge.one_number.Lts as lts
+use Rattle.text.proofs.reader.next_line.Reads as next-line-reads
+use Rattle.text.proofs.line.take_line.Reads as take-line-reads
+
+-- src/judge.rt:59:9
+next-line-requires : tie.Need-next-line-requires
+next-line-requires c κs = search needs
+
+-- src/judge.rt:61:9
+returns : tie.Need-returns
+returns c =
+    let a = c .before .before .before .before .before .args in
+    record {
+      line-is = subst (LineAt (a .text .now) _) (c .if1 .taken) (c .before .next-line .ensures);
+      written =
+          sym (stored-none (a .words .now) (a .place))
+          ∙ ap (λ o. stored (a .words .now) (a .place) (fieldsOf o)) (sym (c .before .next-line .ensures .unfit (c .if1 .taken)));
+    }
+
+-- src/judge.rt:63:5
+take-line-requires : tie.Need-take-line-requires
+take-line-requires c κs =
+    ((λ e. never e (c .before .before .next-line .ensures .fits (c .before .if1 .left) .1)), omega arith)
+
+-- src/judge.rt:55:1
+same-length : tie.Need-same-length
+same-length c = c .before .before .take-line .kept .1 .1 .1 .1 .0
+
+-- src/judge.rt:55:1
+returns-2 : tie.Need-returns-2
+returns-2 c = record { line-is = c .before .before .before .before .before .next-line .ensures; written = c .before .before .take-line .ensures .written }
+
+pub one-number-spec : {M : Type 1} → statement M
+one-number-spec =
+    tie.close (tie.spec next-line-requires returns take-line-requires same-length returns-2)

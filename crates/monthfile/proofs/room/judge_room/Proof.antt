@@ -1,0 +1,87 @@
+use mathlib.Core.Path.{_≡_, refl, sym, ap, _∙_}
+use mathlib.Core.Logic.{⊎-elim}
+use Prim.Native.Nat.{ℕ, zero, suc, _≤_, _<_, _+_, _*_, _/_, _%_, _-_, _^_, min}
+use native.Mathlib.Numerals.{add-one}
+use native.Mathlib.Omega.{arith}
+use mathlib.Core.Path.{ap₂}
+use Rattle.answer.specs.Turns.{_then_}
+use borrow.Author.Needs.{needs}
+use Rattle.monthfile.proofs.room.judge_room.Statement.{statement}
+use Rattle.monthfile.proofs.room.judge_room.Tie as tie
+use Rattle.monthfile.proofs.room.judge_room.Reads as reads
+use Rattle.monthfile.proofs.room.judge_room.Lts as lts
+use Rattle.answer.proofs.in_turn.Reads as in-turn-reads
+use Rattle.monthfile.proofs.room.room_of.Reads as room-of-reads
+
+-- src/room.rt:39:33
+room-of-requires : tie.Need-room-of-requires
+room-of-requires c κs = search needs
+
+-- src/room.rt:39:63
+room-of-requires-2 : tie.Need-room-of-requires-2
+room-of-requires-2 c κs = search needs
+
+-- src/room.rt:39:9
+in-turn-requires : tie.Need-in-turn-requires
+in-turn-requires c κs = search needs
+
+-- src/room.rt:40:41
+room-of-requires-3 : tie.Need-room-of-requires-3
+room-of-requires-3 c κs = search needs
+
+-- src/room.rt:40:9
+in-turn-requires-2 : tie.Need-in-turn-requires-2
+in-turn-requires-2 c κs = search needs
+
+-- src/room.rt:41:41
+room-of-requires-4 : tie.Need-room-of-requires-4
+room-of-requires-4 c κs = search needs
+
+-- src/room.rt:41:9
+in-turn-requires-3 : tie.Need-in-turn-requires-3
+in-turn-requires-3 c κs = search needs
+
+-- src/room.rt:42:41
+room-of-requires-5 : tie.Need-room-of-requires-5
+room-of-requires-5 c κs = search needs
+
+-- src/room.rt:42:9
+in-turn-requires-4 : tie.Need-in-turn-requires-4
+in-turn-requires-4 c κs = search needs
+
+-- src/room.rt:43:29
+room-of-requires-6 : tie.Need-room-of-requires-6
+room-of-requires-6 c κs = search needs
+
+-- src/room.rt:43:5
+in-turn-requires-5 : tie.Need-in-turn-requires-5
+in-turn-requires-5 c κs = search needs
+
+-- src/room.rt:36:1
+returns : tie.Need-returns
+returns c =
+    c .in-turn5 .ensures
+    ∙ ap₂ _then_ (c .before .before .in-turn4 .ensures
+    ∙ ap₂ _then_ (c .before .before .before .before .in-turn3 .ensures
+    ∙ ap₂ _then_ (c .before .before .before .before .before .before .in-turn2 .ensures
+    ∙ ap₂ _then_ (c .before .before .before .before .before .before .before .before .in-turn .ensures ∙ ap₂ _then_ (c .before .before .before .before .before .before .before .before .before .before .room-of .ensures) (c .before .before .before .before .before .before .before .before .before .room-of2 .ensures)) (c .before .before .before .before .before .before .before .room-of3 .ensures))
+    (c .before .before .before .before .before .room-of4 .ensures))
+    (c .before .before .before .room-of5 .ensures))
+    (c .before .room-of6 .ensures)
+
+pub judge-room-spec : {M : Type 1} → statement M
+judge-room-spec =
+    tie.close
+    (tie.spec
+    room-of-requires
+    room-of-requires-2
+    in-turn-requires
+    room-of-requires-3
+    in-turn-requires-2
+    room-of-requires-4
+    in-turn-requires-3
+    room-of-requires-5
+    in-turn-requires-4
+    room-of-requires-6
+    in-turn-requires-5
+    returns)

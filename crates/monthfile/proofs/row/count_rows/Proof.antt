@@ -1,0 +1,78 @@
+use mathlib.Core.Path.{_≡_, refl, sym, ap, _∙_}
+use mathlib.Core.Logic.{⊎-elim}
+use Prim.Native.Nat.{ℕ, zero, suc, _≤_, _<_, _+_, _*_, _/_, _%_, _-_, _^_, min}
+use native.Mathlib.Numerals.{add-one}
+use native.Mathlib.Omega.{arith}
+use lib.ListN.{length, drop}
+use Rattle.monthfile.specs.Reading.{rows}
+use Rattle.monthfile.proofs.RowWalks.{RowsPartly, rows-start, rows-missing, rows-next, rows-end}
+use borrow.Author.Needs.{needs}
+use Rattle.monthfile.proofs.row.count_rows.Statement.{statement}
+use Rattle.monthfile.proofs.row.count_rows.Tie as tie
+use Rattle.monthfile.proofs.row.count_rows.Reads as reads
+use Rattle.monthfile.proofs.row.count_rows.Lts as lts
+use Rattle.text.proofs.reader.next_line.Reads as next-line-reads
+
+abbrev Inv-loop : tie.InvT-loop
+Inv-loop text at key width most i₀ count₀ left₀ i count left =
+    (i ≤ length text) × (count + left ≡ most) × RowsPartly (rows key width most (drop at text)) (rows key width left (drop i text)) count
+
+abbrev μ-loop : tie.MeasureT-loop
+μ-loop text at key width most i₀ count₀ left₀ i count left = left
+
+-- src/row.rt:25:5
+loop-holds : tie.Need-loop-holds Inv-loop μ-loop
+loop-holds c = (c .before .before .pre, omega arith, rows-start _)
+
+-- src/row.rt:26:9
+sub-left : tie.Need-sub-left Inv-loop μ-loop
+sub-left c = search needs
+
+-- src/row.rt:27:13
+next-line-requires : tie.Need-next-line-requires Inv-loop μ-loop
+next-line-requires c κs = search needs
+
+-- src/row.rt:29:13
+returns : tie.Need-returns Inv-loop μ-loop
+returns c =
+    rows-missing (c .before .before .before .before .before .before .args .key .now) (c .before .before .before .before .before .before .args .width) (c .before .before .before .before .before .before .args .text .now) _ (c .before .before .before .loop .i) (c .before .before .before .loop .count) (c .before .before .before .loop .left) (c .before .before .before .loop .inv .2)
+    (c .before .before .loop-test .taken) (c .before .next-line .result) (c .before .next-line .ensures) (c .before .before .before .loop .inv .0) (c .if1 .taken)
+
+-- src/row.rt:32:9
+add-count : tie.Need-add-count Inv-loop μ-loop
+add-count c = omega (arith, c .before .before .before .loop .inv .1, c .before .before .before .before .before .before .fits .most)
+
+-- src/row.rt:25:5
+loop-less : tie.Need-loop-less Inv-loop μ-loop
+loop-less c = search needs
+
+-- src/row.rt:25:5
+loop-again : tie.Need-loop-again Inv-loop μ-loop
+loop-again c = (
+  c .before .next-line .ensures .inside,
+  omega arith,
+  rows-next (c .before .before .before .before .before .before .args .key .now) (c .before .before .before .before .before .before .args .width) (c .before .before .before .before .before .before .args .text .now) _ (c .before .before .before .loop .i) (c .before .before .before .loop .count) (c .before .before .before .loop .left) (c .before .before .before .loop .inv .2)
+      (c .before .before .loop-test .taken) (c .before .next-line .result) (c .before .next-line .ensures) (c .if1 .left),
+)
+
+-- src/row.rt:18:1
+returns-2 : tie.Need-returns-2 Inv-loop μ-loop
+returns-2 c =
+    let a = c .before .before .before .before .args in
+    let l = c .before .loop in
+    rows-end (a .key .now) (a .width) (a .text .now) _ (l .i) (l .count) (l .left) (l .inv .2) (l .inv .0) (c .loop-test .left)
+
+pub count-rows-spec : {M : Type 1} → statement M
+count-rows-spec =
+    tie.close
+    (tie.spec
+    Inv-loop
+    μ-loop
+    loop-holds
+    sub-left
+    next-line-requires
+    returns
+    add-count
+    loop-less
+    loop-again
+    returns-2)

@@ -1,0 +1,58 @@
+-- The form of a month file: which lines, with which keys, in which order.
+-- Assumes nothing.
+use Prim.Native.Nat.{ℕ, zero, suc}
+use mathlib.Core.List.{List, [], _∷_}
+use Rattle.text.specs.Bytes.{bytes}
+use Rattle.tables.specs.declared.Table.{Table}
+use Rattle.tables.specs.declared.Table.the-variants.{Zones, Owners, Units, Accounts, Loads, Reservations}
+use Rattle.tables.specs.Shape.{number, width, limit}
+
+-- a kind of rows: the key of their lines, the entries of a row, the most rows, the number of their table
+pub record Kind : Type 0 where
+  pub key : List ℕ
+  pub width : ℕ
+  pub limit : ℕ
+  pub table : ℕ
+
+-- a form: the keys of the lines that come first, each with one number; the kinds of rows in their order; the last line's key
+pub record Form : Type 0 where
+  pub heads : List (List ℕ)
+  pub kinds : List Kind
+  pub last : List ℕ
+
+-- "then all `zone`, `owner`, `unit`, `account`, `load`, `ptp` lines"
+abbrev pub key : Table → List ℕ
+key Zones = bytes "zone"
+key Owners = bytes "owner"
+key Units = bytes "unit"
+key Accounts = bytes "account"
+key Loads = bytes "load"
+key Reservations = bytes "ptp"
+
+-- the rows of a table
+abbrev pub kindOf : Table → Kind
+kindOf t = record { key = key t; width = width t; limit = limit t; table = number t }
+
+-- "in this order: `month`, `days`, `nonzone`, then all [rows], then `end`"
+abbrev pub monthForm : Form
+monthForm =
+    record {
+      heads = bytes "month" ∷ bytes "days" ∷ bytes "nonzone" ∷ [];
+      kinds =
+          kindOf Zones ∷ kindOf Owners ∷ kindOf Units ∷ kindOf Accounts ∷ kindOf Loads ∷ kindOf Reservations ∷ [];
+      last = bytes "end";
+    }
+
+-- the kinds and the first lines by their place
+abbrev pub tableAt : ℕ → Table
+tableAt zero = Zones
+tableAt (suc zero) = Owners
+tableAt (suc (suc zero)) = Units
+tableAt (suc (suc (suc zero))) = Accounts
+tableAt (suc (suc (suc (suc zero)))) = Loads
+tableAt (suc (suc (suc (suc (suc k))))) = Reservations
+
+abbrev pub headAt : ℕ → List ℕ
+headAt zero = bytes "month"
+headAt (suc zero) = bytes "days"
+headAt (suc (suc k)) = bytes "nonzone"

@@ -1,0 +1,302 @@
+// The first walk over a text: every line is judged, the rows are counted, and the numbers of the first lines taken.
+ghost use mathlib.Core.Path.{_≡_};
+ghost use Prim.Native.Nat.{suc, _^_, _≤_, _<_};
+ghost use lib.ListN.{length, drop};
+ghost use Rattle.answer.specs.Numbers as numbers;
+ghost use Rattle.answer.specs.Turns.{accepted, refuse};
+ghost use Rattle.tables.specs.Shape.{number, width, limit};
+ghost use Rattle.text.specs.Lines.{line};
+ghost use Rattle.monthfile.specs.Form.{key, monthForm, tableAt, headAt};
+ghost use Rattle.monthfile.specs.Reading.{refused, rows, heads, tables, reading};
+ghost use Rattle.monthfile.specs.Calls.{readAnswer};
+ghost use Rattle.monthfile.specs.Walks.{CountedAt, OneTaken, Walked, Ended, JudgedAs, countsOf, readingOf, addedUp};
+use crate::Reading;
+use crate::keys;
+use crate::row;
+use crate::row::Counted;
+use answer::Answer;
+use tables::Table;
+
+const HEADS: usize = 3;
+
+const TABLES: usize = 6;
+
+// Where a walk stands: the refusal that stopped it, or acceptance, and the offset.
+struct Walk {
+    answer: Answer,
+    at: usize,
+}
+
+// A text that doesn't fit at an offset.
+fn unfit(at: usize) -> Walk
+    ensures { λ r. ⌜ (r .answer ≡ refuse numbers.TEXT numbers.head at) × (r .at ≡ at) ⌝ }
+{
+    Walk {
+        answer: answer::refused(answer::TEXT, answer::HEAD, at as u64),
+        at,
+    }
+}
+
+// A walk that goes on at an offset.
+fn fine(at: usize) -> Walk
+    ensures { λ r. ⌜ (r .answer ≡ accepted) × (r .at ≡ at) ⌝ }
+{
+    Walk {
+        answer: Answer {
+            number: answer::ACCEPTED,
+            table: answer::HEAD,
+            row: 0,
+        },
+        at,
+    }
+}
+
+// The one number of the line at `at`, stored at a place, and the offset behind the line, 0 where it doesn't fit.
+fn one_number(text: &[u8], at: usize, key: &[u8], words: &mut [u64], place: usize) -> usize
+    requires { ⌜ place < length (now words) ⌝ }
+    ensures { λ r. ⌜ OneTaken (now (text .entry)) (line (now (key .entry)) 1 (drop at (now (text .entry)))) (now (words .entry)) place r (now (words .exit)) ⌝ }
+{
+    let next = text::reader::next_line(text, at, key, 1);
+    if next == 0 {
+        return 0;
+    }
+    text::line::take_line(text, at, key, 1, words, place);
+    next
+}
+
+// The first line number `k`.
+fn head_line(text: &[u8], at: usize, k: usize, head: &mut [u64]) -> usize
+    requires { ⌜ k < length (now head) ⌝ }
+    ensures { λ r. ⌜ OneTaken (now (text .entry)) (line (headAt k) 1 (drop at (now (text .entry)))) (now (head .entry)) k r (now (head .exit)) ⌝ }
+{
+    match k {
+        0 => one_number(text, at, &keys::MONTH, head, k),
+        1 => one_number(text, at, &keys::DAYS, head, k),
+        _ => one_number(text, at, &keys::NONZONE, head, k),
+    }
+}
+
+// The first lines in turn.
+fn judge_heads(text: &[u8], head: &mut [u64]) -> Walk
+    requires { ⌜ length (now head) ≡ 3 ⌝ }
+    ensures { λ r. ⌜ Walked (now (text .entry)) (heads (length (now (text .entry))) (monthForm .heads) (now (text .entry))) (λ ns. ns) (now (head .entry)) r (now (head .exit)) ⌝ }
+{
+    let mut i = 0;
+    let mut k = 0;
+    while k < HEADS {
+        let next = head_line(text, i, k, head);
+        if next == 0 {
+            return unfit(i);
+        }
+        i = next;
+        k += 1;
+    }
+    fine(i)
+}
+
+// The table of each kind of rows, in the order of the file.
+fn table_of(k: usize) -> Table
+    ensures { λ r. ⌜ r ≡ tableAt k ⌝ }
+{
+    match k {
+        0 => Table::Zones,
+        1 => Table::Owners,
+        2 => Table::Units,
+        3 => Table::Accounts,
+        4 => Table::Loads,
+        _ => Table::Reservations,
+    }
+}
+
+// The rows of a table from `at` on, to one past its limit.
+fn count_table(text: &[u8], at: usize, table: Table) -> Counted
+    requires { ⌜ at ≤ length (now text) ⌝ }
+    ensures { λ r. ⌜ CountedAt (now (text .entry)) (rows (key table) (width table) (suc (limit table)) (drop at (now (text .entry)))) r ⌝ }
+{
+    match table {
+        Table::Zones => row::count_rows(
+            text,
+            at,
+            &keys::ZONE,
+            tables::ZONE_WIDTH,
+            tables::MOST_ZONES + 1,
+        ),
+        Table::Owners => row::count_rows(
+            text,
+            at,
+            &keys::OWNER,
+            tables::OWNER_WIDTH,
+            tables::MOST_OWNERS + 1,
+        ),
+        Table::Units => row::count_rows(
+            text,
+            at,
+            &keys::UNIT,
+            tables::UNIT_WIDTH,
+            tables::MOST_UNITS + 1,
+        ),
+        Table::Accounts => row::count_rows(
+            text,
+            at,
+            &keys::ACCOUNT,
+            tables::ACCOUNT_WIDTH,
+            tables::MOST_ACCOUNTS + 1,
+        ),
+        Table::Loads => row::count_rows(
+            text,
+            at,
+            &keys::LOAD,
+            tables::LOAD_WIDTH,
+            tables::MOST_LOADS + 1,
+        ),
+        Table::Reservations => row::count_rows(
+            text,
+            at,
+            &keys::PTP,
+            tables::RESERVATION_WIDTH,
+            tables::MOST_RESERVATIONS + 1,
+        ),
+    }
+}
+
+// The tables in turn, from `at` on; the number of each one's rows is stored in `counts`.
+fn judge_tables(text: &[u8], at: usize, counts: &mut [u64]) -> Walk
+    requires { ⌜ (at ≤ length (now text)) × (length (now counts) ≡ 6) ⌝ }
+    ensures { λ r. ⌜ Walked (now (text .entry)) (tables (monthForm .kinds) (drop at (now (text .entry)))) countsOf (now (counts .entry)) r (now (counts .exit)) ⌝ }
+{
+    let mut i = at;
+    let mut k = 0;
+    while k < TABLES {
+        let table = table_of(k);
+        let limit = tables::limit(table);
+        let counted = count_table(text, i, table);
+        let count = counted.count;
+        if limit < count {
+            return Walk {
+                answer: answer::refused(answer::COUNT, tables::number(table), limit as u64),
+                at: i,
+            };
+        }
+        counts[k] = count as u64;
+        i = counted.next;
+        k += 1;
+    }
+    fine(i)
+}
+
+// The last line, with the number of rows, and nothing behind it.
+fn judge_end(text: &[u8], at: usize, total: u64) -> Answer
+    requires { ⌜ at ≤ length (now text) ⌝ }
+    ensures { λ r. ⌜ Ended (monthForm .last) (now (text .entry)) (drop at (now (text .entry))) total r ⌝ }
+{
+    let mut number = [0u64; 1];
+    let next = one_number(text, at, &keys::END, &mut number, 0);
+    if next == 0 {
+        return answer::refused(answer::TEXT, answer::HEAD, at as u64);
+    }
+    if number[0] != total {
+        return answer::refused(answer::TEXT, answer::HEAD, at as u64);
+    }
+    if next < text.len() {
+        return answer::refused(answer::TEXT, answer::HEAD, next as u64);
+    }
+    answer::refused(answer::ACCEPTED, answer::HEAD, 0)
+}
+
+// What a refused read answers.
+pub fn nothing_read(answer: Answer) -> Reading
+    ensures { λ r. ⌜ r ≡ readAnswer (refused answer) ⌝ }
+{
+    Reading {
+        answer,
+        month: 0,
+        days: 0,
+        nonzone: 0,
+        zones: 0,
+        owners: 0,
+        units: 0,
+        accounts: 0,
+        loads: 0,
+        reservations: 0,
+    }
+}
+
+// What the first walk finds: the answer of `read`, and where the tables begin.
+pub struct Judged {
+    pub held: Reading,
+    pub body: usize,
+}
+
+fn stopped(answer: Answer) -> Judged
+    ensures { λ r. ⌜ r .held ≡ readAnswer (refused answer) ⌝ }
+{
+    Judged {
+        held: nothing_read(answer),
+        body: 0,
+    }
+}
+
+// What an accepted text holds, by its head and its counts.
+fn found(head: &[u64], counts: &[u64]) -> Reading
+    requires { ⌜ (length (now head) ≡ 3) × (length (now counts) ≡ 6) ⌝ }
+    ensures { λ r. ⌜ r ≡ readingOf (now (head .entry)) (now (counts .entry)) ⌝ }
+{
+    Reading {
+        answer: Answer {
+            number: answer::ACCEPTED,
+            table: answer::HEAD,
+            row: 0,
+        },
+        month: head[0],
+        days: head[1],
+        nonzone: head[2],
+        zones: counts[0] as usize,
+        owners: counts[1] as usize,
+        units: counts[2] as usize,
+        accounts: counts[3] as usize,
+        loads: counts[4] as usize,
+        reservations: counts[5] as usize,
+    }
+}
+
+// How many rows there are in all.
+fn total_of(counts: &[u64]) -> u64
+    requires { ⌜ addedUp (now counts) < 2 ^ 64 ⌝ }
+    ensures { λ r. ⌜ r ≡ addedUp (now (counts .entry)) ⌝ }
+{
+    let mut sum = 0;
+    let mut k = 0;
+    while k < counts.len() {
+        sum += counts[k];
+        k += 1;
+    }
+    sum
+}
+
+// Judges a whole text.
+pub fn judge_text(text: &[u8]) -> Judged
+    ensures { λ r. ⌜ JudgedAs (now (text .entry)) (r .held) (r .body) ⌝ }
+{
+    let mut head = [0u64; 3];
+    let mut counts = [0u64; 6];
+    let heads = judge_heads(text, &mut head);
+    let first = heads.answer;
+    let body = heads.at;
+    if first.number != answer::ACCEPTED {
+        return stopped(first);
+    }
+    let tables = judge_tables(text, body, &mut counts);
+    let second = tables.answer;
+    let last = tables.at;
+    if second.number != answer::ACCEPTED {
+        return stopped(second);
+    }
+    let end = judge_end(text, last, total_of(&counts));
+    if end.number != answer::ACCEPTED {
+        return stopped(end);
+    }
+    Judged {
+        held: found(&head, &counts),
+        body,
+    }
+}

@@ -1,0 +1,72 @@
+-- Case S and figure B1 of the paper, computed from the definitions.
+-- Assumes nothing.
+use mathlib.Core.Path.{_≡_, refl}
+use mathlib.Core.List.{List, [], _∷_}
+use Prim.Native.Nat.{ℕ}
+use Rattle.lists.specs.Sums.{sumTo, largestFirst}
+use Rattle.lists.specs.Entries.{listed, put}
+use Rattle.answer.specs.Turns.{accepted, refuse, _then_, first}
+use Rattle.division.specs.Limits.{sizeRefusal}
+use Rattle.division.specs.Shares.{quotient, remainder, leftover, comesBefore, getsCent, share, shares}
+use Rattle.groups.specs.Turns.{turns}
+use Rattle.groups.specs.Groups as groups
+use Rattle.service.specs.Service as service
+use Rattle.service.specs.Turn as turn
+use Rattle.month.specs.Months.{isMonth, through, twelfth}
+use Rattle.month.specs.Quantities as month
+use Rattle.tables.specs.Limits.{blackStart, reactive}
+use Rattle.tables.specs.Search.{any}
+use Rattle.tables.specs.Rows as rows
+use Rattle.tables.specs.Judgement as judgement
+use Rattle.settlement.specs.Input.{Input, inputOf}
+use Rattle.settlement.specs.Accounts.{contributions, reserved, curtailed, accountUse}
+use Rattle.settlement.specs.Network as network
+use Rattle.settlement.specs.Services as services
+use Rattle.settlement.specs.Settled.{networkInTurn, divisionsInTurn, answerOf, chargeOf, creditOf, chargeWords, creditWords}
+
+abbrev caseS : Input
+caseS =
+    inputOf 4 30 0
+    (1 ∷ 365000 ∷ [])
+    (1 ∷ 1 ∷ 200 ∷ 2 ∷ 1 ∷ 100 ∷ [])
+    (1 ∷ 2 ∷ 1 ∷ 1 ∷ 12000 ∷ 0 ∷ [])
+    (1 ∷ 70 ∷ 1 ∷ 2 ∷ 71 ∷ 0 ∷ [])
+    (1 ∷ 1 ∷ 10 ∷ 1 ∷ 2 ∷ 10 ∷ [])
+    (2 ∷ 480 ∷ 0 ∷ [])
+
+-- uses of 300 and 100 in zone 1, 200 in zone 2, 100 at the border; for both services pots of 1,000 and 500
+abbrev caseB1 : Input
+caseB1 =
+    inputOf 2 29 7
+    (1 ∷ 0 ∷ 2 ∷ 0 ∷ [])
+    (1 ∷ 1 ∷ 0 ∷ [])
+    (1 ∷ 1 ∷ 1 ∷ 1 ∷ 12000 ∷ 0 ∷ 2 ∷ 1 ∷ 2 ∷ 1 ∷ 4800 ∷ 100 ∷ 3 ∷ 1 ∷ 1 ∷ 2 ∷ 12000 ∷ 0 ∷ 4 ∷ 1 ∷ 2 ∷ 2 ∷ 6000 ∷ 0 ∷ [])
+    (1 ∷ 70 ∷ 1 ∷ 2 ∷ 71 ∷ 1 ∷ 3 ∷ 72 ∷ 2 ∷ 4 ∷ 73 ∷ 0 ∷ [])
+    []
+    (1 ∷ 300 ∷ 0 ∷ 2 ∷ 150 ∷ 50 ∷ 3 ∷ 200 ∷ 0 ∷ 4 ∷ 100 ∷ 0 ∷ [])
+
+record Figures : Type 0 where
+  S-charges : chargeWords caseS (9 ∷ 9 ∷ 9 ∷ 9 ∷ 9 ∷ 9 ∷ 9 ∷ []) ≡ (2000 ∷ 500 ∷ 0 ∷ 0 ∷ 500 ∷ 0 ∷ 9 ∷ [])
+  S-credits : creditWords caseS (9 ∷ 9 ∷ 9 ∷ 9 ∷ 9 ∷ 9 ∷ 9 ∷ 9 ∷ []) ≡ (1333 ∷ 0 ∷ 0 ∷ 0 ∷ 667 ∷ 0 ∷ 1000 ∷ 0 ∷ [])
+  S-answer : answerOf caseS 6 8 ≡ accepted
+  S-room : answerOf caseS 6 7 ≡ record { number = 2; table = 8; row = 0 }
+  B1-charges : chargeWords caseB1 (0 ∷ 0 ∷ 0 ∷ 0 ∷ 0 ∷ 0 ∷ 0 ∷ 0 ∷ 0 ∷ 0 ∷ 0 ∷ 0 ∷ []) ≡ (0 ∷ 643 ∷ 643 ∷ 0 ∷ 214 ∷ 214 ∷ 0 ∷ 429 ∷ 429 ∷ 0 ∷ 214 ∷ 214 ∷ [])
+  B1-credits : creditWords caseB1 (0 ∷ 0 ∷ 0 ∷ 0 ∷ []) ≡ (0 ∷ 0 ∷ 1500 ∷ 1500 ∷ [])
+  B1-answer : answerOf caseB1 12 4 ≡ accepted
+  B1-splits : listed 2 (service.zoneSide (services.serviceIn caseB1 blackStart)) ≡ (857 ∷ 429 ∷ [])
+  B1-nonzone : listed 2 (service.nonzoneSide (services.serviceIn caseB1 reactive)) ≡ (143 ∷ 71 ∷ [])
+
+figures : Figures
+unfolding sumTo largestFirst listed put refuse _then_ first sizeRefusal quotient remainder leftover comesBefore getsCent share shares turns groups.among groups.weightsIn groups.amount groups.amounts groups.refusal groups.groupsInTurn service.zoneUse service.nonzoneUse service.uses service.zoneSide service.nonzoneSide service.zoneShare service.nonzonePot service.nonzoneParts service.nonzoneShare service.serviceCharge turn.splitRefusal turn.shareRefusal turn.nonzoneRefusal turn.zoneTurn turn.serviceInTurn isMonth through twelfth month.useOf month.nearest month.networkCharge any rows.rowNumber rows.notAbove rows.unknown rows.taken rows.zoneOutside rows.zoneRow rows.ownerOutside rows.ownerRow rows.unitOutside rows.unitRow rows.accountOutside rows.accountRow rows.loadOutside rows.loadRow rows.reservationOutside rows.reservationRow judgement.inTurn judgement.counted judgement.roomFor judgement.headJudged judgement.rowsJudged judgement.judged contributions reserved curtailed accountUse network.rateOf network.rate network.networkCharge network.chargesIn network.requirements network.networkCredit network.nonzoneCredit network.nonzoneRefusal services.unitCredit services.partOf services.creditIn services.serviceCredit services.zonePot services.zonePart services.nonzonePart services.serviceCharge networkInTurn divisionsInTurn answerOf chargeOf creditOf chargeWords creditWords
+figures =
+    record {
+      S-charges = refl;
+      S-credits = refl;
+      S-answer = refl;
+      S-room = refl;
+      B1-charges = refl;
+      B1-credits = refl;
+      B1-answer = refl;
+      B1-splits = refl;
+      B1-nonzone = refl;
+    }

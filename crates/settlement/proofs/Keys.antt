@@ -1,0 +1,74 @@
+-- Rows with numbers that strictly ascend: no two rows have one number, so a sum over the rows with a number has one row at most.
+-- Assumes nothing.
+use mathlib.Core.Path.{_≡_, refl, sym, ap, _∙_}
+use mathlib.Core.Logic.{_⊎_, inl, inr, ⊎-elim, _≢_}
+use mathlib.Core.Bool.{Bool, true, false}
+use Prim.Native.Nat.{ℕ, zero, suc, _+_, _-_, _*_, _≤_, _<_}
+use native.Mathlib.Nat.{le-step, lt-suc-self, le-refl, le-of-suc-le}
+use native.Mathlib.Omega.{arith}
+use lib.Dec.{eqb}
+use borrow.Author.Tests.{eq-eqb, ne-eqb, eqb-true}
+use Rattle.lists.specs.Sums.{sumTo, when}
+use Rattle.lists.proofs.Sums.{sum-zero}
+use Rattle.lists.proofs.Ranks.{true-or-false, lt-or-le}
+use Rattle.groups.proofs.Members.{sum-one}
+use Rattle.month.specs.Limits.{mostLoad}
+
+-- the numbers of n rows strictly ascend
+abbrev pub Ascends : ℕ → (ℕ → ℕ) → Type 0
+Ascends n key = (i j : ℕ) → i < j → j < n → key i < key j
+
+module _ (n : ℕ) (key : ℕ → ℕ) (up : Ascends n key) where
+  pub distinct : (i j : ℕ) → i < n → j < n → i ≢ j → key i ≢ key j
+  distinct i j h k d e =
+      ⊎-elim
+      (λ (l : i < j). omega (arith, up i j l k))
+      (λ (l : j ≤ i). let less : j < i = omega (arith, d) in omega (arith, up j i less h))
+      (lt-or-le i j)
+
+  -- where row k has the number x, a sum over the rows with that number is row k's
+  pub row-of : (x k v : ℕ) → k < n → key k ≡ x → sumTo n (λ i. when (eqb x (key i)) v) ≡ v
+  row-of x k v h e =
+      sum-one n (λ i. when (eqb x (key i)) v) k h
+      (λ i b d. rw (ne-eqb x (key i) (λ q. distinct i k b h d (sym q ∙ sym e))))
+      ∙ (rw (eq-eqb x (key k) (sym e)))
+
+-- where no row has the number x, nothing is in the sum
+pub no-row-of : (n : ℕ) (key : ℕ → ℕ) (x v : ℕ) → ((i : ℕ) → i < n → x ≢ key i) → sumTo n (λ i. when (eqb x (key i)) v) ≡ 0
+no-row-of n key x v none = sum-zero n (λ i. when (eqb x (key i)) v) (λ i b. rw (ne-eqb x (key i) (none i b)))
+
+-- .. and what the rows with a number have is at most what one row can have
+pub one-row-at-most : (n : ℕ) (key f : ℕ → ℕ) (x most : ℕ) → Ascends n key → ((i : ℕ) → i < n → f i ≤ most)
+    → sumTo n (λ i. when (eqb (key i) x) (f i)) ≤ most
+unfolding sumTo
+one-row-at-most zero key f x most up within = omega arith
+one-row-at-most (suc n) key f x most up within =
+    ⊎-elim
+    (λ (e : eqb (key n) x ≡ true).
+    let before : sumTo n (λ i. when (eqb (key i) x) (f i)) ≡ 0 =
+    sum-zero n (λ i. when (eqb (key i) x) (f i))
+    (λ i b. rw (ne-eqb (key i) x (λ q. let p : key n ≡ x = eqb-true (key n) x e in omega (arith, up i n b (lt-suc-self n)))) refl) in
+    rw (e, before) (omega (arith, within n (lt-suc-self n))))
+    (λ (e : eqb (key n) x ≡ false).
+    rw e (omega (arith, one-row-at-most n key f x most (λ i j l h. up i j l (le-step h)) (λ i b. within i (le-step b)))))
+    (true-or-false (eqb (key n) x))
+
+-- Rows with an account and a day each, of which no two have both in common: an account has a row for each day at most.
+module _ (n : ℕ) (account day f : ℕ → ℕ)
+    (up : (i j : ℕ) → i < j → j < n → (account i < account j) ⊎ ((account i ≡ account j) × (day i < day j)))
+    (from-one : (i : ℕ) → i < n → 1 ≤ day i) (within : (i : ℕ) → i < n → f i ≤ mostLoad) (x : ℕ) where
+  pub one-row-a-day : (k : ℕ) → k ≤ n → (last : ℕ) → ((i : ℕ) → i < k → account i ≡ x → day i ≤ last)
+      → sumTo k (λ i. when (eqb (account i) x) (f i)) ≤ last * mostLoad
+  unfolding sumTo
+  one-row-a-day zero h last days = omega arith
+  one-row-a-day (suc k) h last days =
+      ⊎-elim
+      (λ (e : eqb (account k) x ≡ true).
+      let its : account k ≡ x = eqb-true (account k) x e in
+      let earlier : sumTo k (λ i. when (eqb (account i) x) (f i)) ≤ (day k - 1) * mostLoad =
+      one-row-a-day k (le-of-suc-le h) (day k - 1)
+      (λ i b q. ⊎-elim (λ l. omega arith) (λ p. omega arith) (up i k b h)) in
+      rw e (omega (arith, within k h, from-one k h, days k (lt-suc-self k) its)))
+      (λ (e : eqb (account k) x ≡ false).
+      rw e (omega (arith, one-row-a-day k (le-of-suc-le h) last (λ i b q. days i (le-step b) q))))
+      (true-or-false (eqb (account k) x))

@@ -1,0 +1,15 @@
+pub mod Figures
+pub mod Keys
+pub mod Adding
+pub mod Fronts
+pub mod Filling
+pub mod Crediting
+pub mod Serving
+pub mod Settling
+pub mod Writing
+pub mod Ranges
+pub mod Balance
+pub mod Accepting
+pub mod Parts
+pub mod Promises
+pub mod Unique

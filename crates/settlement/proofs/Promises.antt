@@ -1,0 +1,191 @@
+-- What is promised of every accepted month. Nothing else stands here; each proof puts together what the division, the groups, the
+-- services and the tables promise.
+-- Assumes nothing.
+use mathlib.Core.Path.{_≡_, refl, sym, ap, ap₂, _∙_}
+use mathlib.Core.Logic.{_↔_, ⊎-elim, _≢_}
+use mathlib.Core.Bool.{Bool, true, false}
+use Prim.Native.Nat.{ℕ, _+_, _<_}
+use native.Mathlib.Omega.{arith}
+use lib.Dec.{eqb}
+use borrow.Author.Tests.{eq-eqb, ne-eqb, eqb-true}
+use Rattle.lists.specs.Sums.{sumTo, at, when, count}
+use Rattle.lists.specs.Entries.{kept}
+use Rattle.lists.proofs.Sums.{sum-eq, sum-zero}
+use Rattle.lists.proofs.Ranks.{true-or-false}
+use Rattle.answer.specs.declared.Answer.{Answer}
+use Rattle.answer.specs.Numbers.{BIG, BASE}
+use Rattle.division.specs.Shares.{shares}
+use Rattle.groups.specs.Groups.{amount, amounts, alone}
+use Rattle.groups.proofs.Members.{when-false, listed-add-up}
+use Rattle.groups.proofs.Laws.{pots-divided, pot-divided, members-have-all, amount-alone}
+use Rattle.service.specs.Service.{zoneSide, nonzoneSide, nonzonePot, zoneShare, nonzoneShare}
+use Rattle.service.specs.Turn.{splitRefusal, shareRefusal}
+use Rattle.service.specs.Turn as turn
+use Rattle.service.proofs.Promises as service
+use Rattle.tables.specs.Shape.{chargeWidth, creditWidth, Tables}
+use Rattle.tables.specs.Columns.{zoneNumber, ownerNumber, ownerZone, ownerRequirement, unitOwner, accountZone}
+use Rattle.tables.specs.Limits.{blackStart, reactive}
+use Rattle.settlement.specs.Input.{Input, zoneCount, ownerCount, unitCount, accountCount}
+use Rattle.settlement.specs.Accounts.{accountUse}
+use Rattle.settlement.specs.Network.{networkCharge, chargesIn, networkPots, networkCredit, requirements, nonzoneCredit, nonzoneRefusal}
+use Rattle.settlement.specs.Services.{partOf, creditIn, serviceCredit, zonePot, serviceIn, serviceCharge}
+use Rattle.settlement.specs.Settled.{answerOf, chargeOf, creditOf}
+use Rattle.settlement.specs.Accepted.{IsService, Accepted}
+use Rattle.settlement.proofs.Accepting.{answer-accepted, accepted-answer}
+use Rattle.settlement.proofs.Balance as balance
+use Rattle.settlement.proofs.Parts as parts
+
+module _ (m : Input) (lentCharges lentCredits : ℕ) where
+  -- a month is accepted exactly where its input is good and every division is fine: no good month is refused
+  pub accepted-exactly : (answerOf m lentCharges lentCredits .number ≡ 0) ↔ Accepted m lentCharges lentCredits
+  accepted-exactly = (
+    answer-accepted m lentCharges lentCredits,
+    λ all. ap (λ (r : Answer). r .number) (accepted-answer m lentCharges lentCredits all),
+  )
+
+module _ {m : Input} {lentCharges lentCredits : ℕ} (all : Accepted m lentCharges lentCredits) where
+  open Tables (m .tables) using (zones, owners, units, accounts)
+
+  -- in each zone the network charges of its accounts add up to what its owners have from it ..
+  pub zone-charges-are-credits-from-it : (z : ℕ) → z < zoneCount m
+      → chargesIn m (zoneNumber zones z) ≡ sumTo (ownerCount m) (λ o. amount (networkPots m) z o)
+  zone-charges-are-credits-from-it z b = sym (pot-divided (networkPots m) z (all .zones-fine z b))
+
+  -- .. which is the network credit of each, and nobody else's: "In each zone the network charges equal the network credits"
+  pub network-credit-is-from-own-zone : (o z : ℕ) → o < ownerCount m → z < zoneCount m → ownerZone owners o ≡ zoneNumber zones z
+      → networkCredit m o ≡ amount (networkPots m) z o
+  network-credit-is-from-own-zone = parts.credit-from-own-zone all
+
+  pub zone-charges-are-credits : (z : ℕ) → z < zoneCount m
+      → chargesIn m (zoneNumber zones z) ≡ sumTo (ownerCount m) (λ o. when (eqb (ownerZone owners o) (zoneNumber zones z)) (networkCredit m o))
+  zone-charges-are-credits z b =
+      sym (members-have-all (networkPots m) z (all .zones-fine z b))
+      ∙ sum-eq (ownerCount m) (λ o. when (eqb (ownerZone owners o) (zoneNumber zones z)) (amount (networkPots m) z o))
+      (λ o. when (eqb (ownerZone owners o) (zoneNumber zones z)) (networkCredit m o))
+      (λ o h.
+      ⊎-elim
+      (λ (q : eqb (ownerZone owners o) (zoneNumber zones z) ≡ true).
+      ap (when (eqb (ownerZone owners o) (zoneNumber zones z)))
+      (sym (parts.credit-from-own-zone all o z h b (eqb-true (ownerZone owners o) (zoneNumber zones z) q))))
+      (λ (q : eqb (ownerZone owners o) (zoneNumber zones z) ≡ false).
+      when-false (eqb (ownerZone owners o) (zoneNumber zones z)) (amount (networkPots m) z o) q
+      ∙ sym (when-false (eqb (ownerZone owners o) (zoneNumber zones z)) (networkCredit m o) q))
+      (true-or-false (eqb (ownerZone owners o) (zoneNumber zones z))))
+
+  -- all zones' network charges add up to all network credits
+  pub all-zone-charges-are-credits : sumTo (zoneCount m) (λ z. chargesIn m (zoneNumber zones z)) ≡ sumTo (ownerCount m) (networkCredit m)
+  unfolding networkCredit
+  all-zone-charges-are-credits = sym (pots-divided (networkPots m) (all .zones-fine))
+
+  -- the network charges of zone 0 add up to all non-zone credits
+  pub zone-0-charges-are-non-zone-credits : chargesIn m 0 ≡ sumTo (ownerCount m) (nonzoneCredit m)
+  unfolding nonzoneCredit requirements nonzoneRefusal
+  zone-0-charges-are-non-zone-credits =
+      sym (listed-add-up (chargesIn m 0) (ownerCount m) (ownerRequirement owners) (all .nonzone-fine))
+
+  -- "over the pool the same holds for black start and for reactive"
+  pub service-charges-are-credits : (s : ℕ) → IsService s → sumTo (accountCount m) (serviceCharge m s) ≡ sumTo (ownerCount m) (serviceCredit m s)
+  unfolding serviceCharge
+  service-charges-are-credits s i =
+      service.charges-are-pots (serviceIn m s) (all .service-fine s i)
+      ∙ balance.pots-are-credits m lentCharges lentCredits (all .good) s
+      ∙ sym (balance.owners-have-credits m lentCharges lentCredits (all .good) s)
+
+  -- all charges equal all credits
+  pub all-charges-are-credits : sumTo chargeWidth (λ column. sumTo (accountCount m) (chargeOf m column)) ≡ sumTo creditWidth (λ column. sumTo (ownerCount m) (creditOf m column))
+  unfolding sumTo chargeOf creditOf
+  all-charges-are-credits =
+      omega (
+        arith,
+        balance.charges-by-zone m lentCharges lentCredits (all .good),
+        all-zone-charges-are-credits,
+        zone-0-charges-are-non-zone-credits,
+        service-charges-are-credits blackStart (mathlib.Core.Logic.inl refl),
+        service-charges-are-credits reactive (mathlib.Core.Logic.inr refl),
+      )
+
+  module _ (s : ℕ) (i : IsService s) where
+    -- each zone's pot is split without loss
+    pub split-without-loss : (z : ℕ) → z < zoneCount m → zoneSide (serviceIn m s) z + nonzoneSide (serviceIn m s) z ≡ zonePot m s z
+    split-without-loss = service.split-without-loss (serviceIn m s) (all .service-fine s i)
+
+    -- a zone side is fully charged to that zone's accounts, and is all that these are charged
+    pub zone-side-to-its-accounts : (z : ℕ) → z < zoneCount m
+        → sumTo (accountCount m) (λ a. when (eqb (accountZone accounts a) (zoneNumber zones z)) (serviceCharge m s a)) ≡ zoneSide (serviceIn m s) z
+    zone-side-to-its-accounts z b =
+        sum-eq (accountCount m) (λ a. when (eqb (accountZone accounts a) (zoneNumber zones z)) (serviceCharge m s a))
+        (λ a. when (eqb (accountZone accounts a) (zoneNumber zones z)) (zoneShare (serviceIn m s) z a))
+        (λ a h.
+        ⊎-elim
+        (λ (q : eqb (accountZone accounts a) (zoneNumber zones z) ≡ true).
+        ap (when (eqb (accountZone accounts a) (zoneNumber zones z)))
+        (parts.pays-its-zone-side all s (all .service-fine s i) a z h b (eqb-true (accountZone accounts a) (zoneNumber zones z) q)))
+        (λ (q : eqb (accountZone accounts a) (zoneNumber zones z) ≡ false).
+        when-false (eqb (accountZone accounts a) (zoneNumber zones z)) (serviceCharge m s a) q
+        ∙ sym (when-false (eqb (accountZone accounts a) (zoneNumber zones z)) (zoneShare (serviceIn m s) z a) q))
+        (true-or-false (eqb (accountZone accounts a) (zoneNumber zones z))))
+        ∙ service.zone-side-to-its-accounts (serviceIn m s) (all .service-fine s i) z b
+
+    -- the non-zone sides of all zones are fully charged to zone 0's accounts, and are all that these are charged
+    pub non-zone-sides-to-zone-0 : sumTo (accountCount m) (λ a. when (eqb (accountZone accounts a) 0) (serviceCharge m s a)) ≡ sumTo (zoneCount m) (nonzoneSide (serviceIn m s))
+    unfolding nonzonePot
+    non-zone-sides-to-zone-0 =
+        sum-eq (accountCount m) (λ a. when (eqb (accountZone accounts a) 0) (serviceCharge m s a))
+        (λ a. when (eqb (accountZone accounts a) 0) (nonzoneShare (serviceIn m s) a))
+        (λ a h.
+        ⊎-elim
+        (λ (q : eqb (accountZone accounts a) 0 ≡ true).
+        ap (when (eqb (accountZone accounts a) 0))
+        (parts.pays-the-non-zone-pot all s (all .service-fine s i) a h (eqb-true (accountZone accounts a) 0 q)))
+        (λ (q : eqb (accountZone accounts a) 0 ≡ false).
+        when-false (eqb (accountZone accounts a) 0) (serviceCharge m s a) q
+        ∙ sym (when-false (eqb (accountZone accounts a) 0) (nonzoneShare (serviceIn m s) a) q))
+        (true-or-false (eqb (accountZone accounts a) 0)))
+        ∙ parts.non-zone-pot-to-zone-0 all s (all .service-fine s i)
+
+    -- an account that uses nothing is charged nothing
+    pub idle-account-is-free : (a : ℕ) → a < accountCount m → accountUse m a ≡ 0 → serviceCharge m s a ≡ 0
+    unfolding serviceCharge
+    idle-account-is-free a b e =
+        service.idle-account-is-free (serviceIn m s) (all .service-fine s i) a b (parts.idle-parts m s a e .0) (parts.idle-parts m s a e .1)
+
+    -- the paper's words, "divided among that zone's accounts by use": the zone's accounts as a list of their own ..
+    pub charge-among-zone-accounts : (a z : ℕ) → a < accountCount m → z < zoneCount m → accountZone accounts a ≡ zoneNumber zones z
+        → serviceCharge m s a
+        ≡ at (shares (zoneSide (serviceIn m s) z) (kept (accountCount m) (λ b. eqb (accountZone accounts b) (zoneNumber zones z)) (accountUse m)))
+        (count a (λ b. eqb (accountZone accounts b) (zoneNumber zones z)))
+    charge-among-zone-accounts a z b h e =
+        parts.pays-its-zone-side all s (all .service-fine s i) a z b h e ∙ parts.zone-side-alone all s (all .service-fine s i) a z b h e
+
+    -- .. and "divided among zone 0's accounts by use"
+    pub charge-among-zone-0-accounts : (a : ℕ) → a < accountCount m → accountZone accounts a ≡ 0
+        → serviceCharge m s a
+        ≡ at (shares (nonzonePot (serviceIn m s)) (kept (accountCount m) (λ b. eqb (accountZone accounts b) 0) (accountUse m)))
+        (count a (λ b. eqb (accountZone accounts b) 0))
+    charge-among-zone-0-accounts a b e =
+        parts.pays-the-non-zone-pot all s (all .service-fine s i) a b e ∙ parts.non-zone-pot-alone all s (all .service-fine s i) a b e
+
+  -- "divided among its owners by requirement": the zone's owners as a list of their own
+  pub credit-among-zone-owners : (o z : ℕ) → o < ownerCount m → z < zoneCount m → ownerZone owners o ≡ zoneNumber zones z
+      → networkCredit m o
+      ≡ at (shares (chargesIn m (zoneNumber zones z)) (kept (ownerCount m) (λ p. eqb (ownerZone owners p) (zoneNumber zones z)) (ownerRequirement owners)))
+      (count o (λ p. eqb (ownerZone owners p) (zoneNumber zones z)))
+  unfolding alone
+  credit-among-zone-owners o z b h e =
+      parts.credit-from-own-zone all o z b h e
+      ∙ amount-alone (networkPots m) z (all .zones-fine z h) o b (eq-eqb (ownerZone owners o) (zoneNumber zones z) e)
+
+-- an owner without units has no service credit
+pub no-units-no-credit : (m : Input) (s o : ℕ) → ((u : ℕ) → u < unitCount m → unitOwner (m .tables .units) u ≢ ownerNumber (m .tables .owners) o) → serviceCredit m s o ≡ 0
+unfolding serviceCredit partOf
+no-units-no-credit m s o none =
+    sum-zero (unitCount m) (λ u. when (eqb (unitOwner (m .tables .units) u) (ownerNumber (m .tables .owners) o)) (creditIn m s u))
+    (λ u b. rw (ne-eqb (unitOwner (m .tables .units) u) (ownerNumber (m .tables .owners) o) (none u b)))
+
+-- after a split that is fine, a service's share is never BIG
+pub share-never-big : (m : Input) (s z : ℕ) → splitRefusal (serviceIn m s) z ≡ 0 → shareRefusal (serviceIn m s) z ≢ BIG
+share-never-big m s = service.share-never-big (serviceIn m s)
+
+-- after splits that are all fine, a service's non-zone pot is never BASE
+pub non-zone-never-base : (m : Input) (s : ℕ) → ((z : ℕ) → z < zoneCount m → splitRefusal (serviceIn m s) z ≡ 0) → turn.nonzoneRefusal (serviceIn m s) ≢ BASE
+non-zone-never-base m s = service.nonzone-never-base (serviceIn m s)

@@ -1,0 +1,176 @@
+-- What the figures of a good month can be at most: from the range of each entry, from one load a day and account, and from one
+-- reservation an account.
+-- Assumes nothing.
+use mathlib.Core.Path.{_≡_, refl, sym, ap, _∙_}
+use mathlib.Core.Logic.{⊎-elim, _≢_}
+use mathlib.Core.Bool.{Bool, true, false, cond}
+use Prim.Native.Nat.{ℕ, _+_, _*_, _^_, _≤_, _<_}
+use native.Mathlib.Nat.{le-trans, le-of-eq, le-refl, lt-of-le-of-lt, mul-le-mul-right}
+use native.Mathlib.Omega.{arith}
+use lib.Dec.{eqb}
+use Rattle.lists.specs.Sums.{sumTo, when}
+use Rattle.lists.proofs.Sums.{sum-le, sum-const}
+use Rattle.lists.proofs.Ranks.{true-or-false}
+use Rattle.groups.proofs.Members.{when-le}
+use Rattle.tables.specs.declared.Table.{Table}
+use Rattle.tables.specs.declared.Table.the-variants.{Zones, Owners, Units, Accounts, Loads, Reservations}
+use Rattle.tables.specs.Shape.{rows, width, limit, Tables, wordsOf}
+use Rattle.tables.specs.Columns.{
+  entry,
+  zoneNumber,
+  zoneRate,
+  ownerNumber,
+  ownerRequirement,
+  unitRequirement,
+  unitReserve,
+  unitService,
+  accountNumber,
+  accountZone,
+  loadAccount,
+  loadDay,
+  loadContribution,
+  reservationAccount,
+  reservationReserved,
+  reservationCurtailed,
+}
+use Rattle.tables.specs.Good.{Above}
+use Rattle.tables.proofs.Promises.{strictly-ascend}
+use Rattle.month.specs.Limits.{mostRate, mostAnnual, mostLoad, mostEnergy, mostDays, mostContributions}
+use Rattle.month.proofs.Months.{InYear, month-within, twelfth-within}
+use Rattle.month.proofs.Quantities as quantities
+use Rattle.settlement.specs.Input.{Input, zoneCount, ownerCount, unitCount, accountCount}
+use Rattle.settlement.specs.Accounts.{contributions, reserved, curtailed, accountUse}
+use Rattle.settlement.specs.Network.{rateOf, rate, networkCharge, chargesIn}
+use Rattle.settlement.specs.Services.{unitCredit, creditIn, zonePart, nonzonePart}
+use Rattle.settlement.specs.Accepted.{Good}
+use Rattle.settlement.specs.Steps.{summed, Summable, Settleable}
+use Rattle.settlement.proofs.Keys.{Ascends, one-row-at-most, one-row-a-day}
+
+-- so many figures, each at most so much
+pub at-most : (n limit most : ℕ) (f : ℕ → ℕ) → n ≤ limit → ((i : ℕ) → i < n → f i ≤ most) → sumTo n f ≤ limit * most
+at-most n limit most f few within =
+    le-trans (sum-le n f (λ i. most) within) (le-trans (le-of-eq (sum-const n most)) (mul-le-mul-right most few))
+
+module _ (m : Input) (lentCharges lentCredits : ℕ) (good : Good m lentCharges lentCredits) where
+  open Tables (m .tables) using (zones, owners, units, accounts, loads, reservations)
+
+  above : (table : Table) (i j : ℕ) → i < j → j < rows table (wordsOf (m .tables) table) → Above (m .tables) table i j
+  above table = strictly-ascend (m .days) (m .tables) table (good .tables table)
+
+  pub zones-ascend : Ascends (zoneCount m) (zoneNumber zones)
+  zones-ascend = above Zones
+
+  pub owners-ascend : Ascends (ownerCount m) (ownerNumber owners)
+  owners-ascend = above Owners
+
+  pub in-year : InYear (m .month) (m .days)
+  in-year = month-within (m .month) (m .days) (good .frame .month-known)
+
+  pub contributions-within : (a : ℕ) → contributions m a ≤ mostContributions
+  unfolding contributions
+  contributions-within a =
+      let by-days = one-row-a-day (rows Loads loads) (loadAccount loads) (loadDay loads) (loadContribution loads) (above Loads)
+      (λ i b. good .tables Loads i b .in-range .day .least) (λ i b. good .tables Loads i b .in-range .contribution .most)
+      (accountNumber accounts a) (rows Loads loads) (le-refl (rows Loads loads)) (m .days)
+      (λ i b e. good .tables Loads i b .in-range .day .most) in
+      omega (arith, by-days, in-year .short)
+
+  pub reserved-of-within : (number : ℕ) → summed Reservations 1 reservations number ≤ mostEnergy
+  unfolding summed
+  reserved-of-within number =
+      one-row-at-most (rows Reservations reservations) (reservationAccount reservations) (reservationReserved reservations) number mostEnergy
+      (above Reservations) (λ i b. good .tables Reservations i b .in-range .reserved .most)
+
+  when-mono : (t : Bool) (x y : ℕ) → x ≤ y → when t x ≤ when t y
+  when-mono true x y h = h
+  when-mono false x y h = le-refl 0
+
+  pub curtailed-of-within : (number : ℕ) → summed Reservations 2 reservations number ≤ summed Reservations 1 reservations number
+  unfolding summed
+  curtailed-of-within number =
+      sum-le (rows Reservations reservations)
+      (λ r. when (eqb (reservationAccount reservations r) number) (reservationCurtailed reservations r))
+      (λ r. when (eqb (reservationAccount reservations r) number) (reservationReserved reservations r))
+      (λ r b.
+      when-mono (eqb (reservationAccount reservations r) number) (reservationCurtailed reservations r)
+      (reservationReserved reservations r) (good .tables Reservations r b .in-range .at-most-reserved))
+
+  pub reserved-within : (a : ℕ) → reserved m a ≤ mostEnergy
+  unfolding reserved summed
+  reserved-within a = reserved-of-within (accountNumber accounts a)
+
+  pub curtailed-within : (a : ℕ) → curtailed m a ≤ reserved m a
+  unfolding reserved curtailed summed
+  curtailed-within a = curtailed-of-within (accountNumber accounts a)
+
+  pub use-within : (a : ℕ) → accountUse m a ≤ 2 * 10 ^ 9
+  unfolding accountUse
+  use-within a = quantities.use-within (contributions m a) (reserved m a) (curtailed m a) (contributions-within a) (reserved-within a)
+
+  rate-of-within : (zone : ℕ) → rateOf m zone ≤ mostRate
+  unfolding rateOf
+  rate-of-within zone =
+      one-row-at-most (zoneCount m) (zoneNumber zones) (zoneRate zones) zone mostRate zones-ascend
+      (λ i b. good .tables Zones i b .in-range .rate .most)
+
+  pub rate-within : (a : ℕ) → rate m a ≤ mostRate
+  unfolding rate
+  rate-within a =
+      elim (eqb (accountZone accounts a) 0) as (λ t. cond t (m .nonzone) (rateOf m (accountZone accounts a)) ≤ mostRate)
+      [ true ↦ good .frame .nonzone-in-range .most | false ↦ rate-of-within (accountZone accounts a) ]
+
+  pub charge-within : (a : ℕ) → networkCharge m a ≤ 10 ^ 12
+  unfolding networkCharge
+  charge-within a = quantities.charge-within (contributions m a) (rate m a) (contributions-within a) (rate-within a)
+
+  pub unit-credit-within : (u : ℕ) → u < unitCount m → unitCredit m u ≤ 2 * 10 ^ 12
+  unfolding unitCredit
+  unit-credit-within u b =
+      let r = good .tables Units u b .in-range in
+      omega (arith, twelfth-within (m .month) (unitRequirement units u) (in-year .last), r .requirement .most, r .reserve .most)
+
+  -- every figure of a good month can be found, and added up
+  summable : (table : Table) (column most : ℕ) → column < width table → limit table * most < 2 ^ 64
+      → ((i : ℕ) → i < rows table (wordsOf (m .tables) table) → entry table column (wordsOf (m .tables) table) i ≤ most)
+      → Summable table column (wordsOf (m .tables) table)
+  summable table column most named fits within =
+      record {
+        named = named;
+        fits =
+            lt-of-le-of-lt
+            (at-most (rows table (wordsOf (m .tables) table)) (limit table) most (entry table column (wordsOf (m .tables) table))
+            (good .frame .counted table .few) within)
+            fits;
+      }
+
+  pub settleable : Settleable m
+  unfolding contributions rate rateOf
+  settleable =
+      record {
+        fillable = record {
+          few = good .frame .counted Accounts .few;
+          loads-column = summable Loads 2 mostLoad (omega arith) (omega arith) (λ i b. good .tables Loads i b .in-range .contribution .most);
+          contributions-within = contributions-within;
+          rated = record {
+            rates = summable Zones 1 mostRate (omega arith) (omega arith) (λ i b. good .tables Zones i b .in-range .rate .most);
+            rate-within = rate-within;
+          };
+          energy = record {
+            reserved-column = summable Reservations 1 mostEnergy (omega arith) (omega arith) (λ i b. good .tables Reservations i b .in-range .reserved .most);
+            curtailed-column = summable Reservations 2 mostEnergy (omega arith) (omega arith) (λ i b. good .tables Reservations i b .in-range .curtailed .most);
+            reserved-within = reserved-of-within;
+            curtailed-within = curtailed-of-within;
+          };
+        };
+        creditable = record {
+          first-month = in-year .first;
+          last-month = in-year .last;
+          few-units = good .frame .counted Units .few;
+          few-zones = good .frame .counted Zones .few;
+          requirement-within = λ u b. good .tables Units u b .in-range .requirement .most;
+          reserve-within = λ u b. good .tables Units u b .in-range .reserve .most;
+        };
+        few-owners = good .frame .counted Owners .few;
+        charge-within = charge-within;
+        use-within = use-within;
+      }
