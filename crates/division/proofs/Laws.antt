@@ -17,16 +17,17 @@ use Rattle.lists.proofs.Sums.{le-sum, sum-zero}
 use Rattle.lists.proofs.Ranks.{lt-or-le}
 use Rattle.lists.proofs.Entries.{length-listed, at-listed, total-listed}
 use Rattle.lists.proofs.Members.{length-kept, place-below}
-use Rattle.answer.specs.Numbers.{COUNT}
+use Rattle.answer.specs.Numbers.{COUNT, BASE}
 use Rattle.answer.proofs.Turns.{zero-or-not, look-none}
 use Rattle.division.specs.Limits.{mostWeights, potLimit, weightLimit, sizeRefusal, divideRefusal}
 use Rattle.division.specs.Shares.{quotient, leftover, comesBefore, getsCent, share, shares, memory}
-use Rattle.division.specs.Check.{verdict}
+use Rattle.division.specs.Check.{verdict, numberOf}
 use Rattle.division.specs.declared.Verdict.the-variants.{Refused}
 use Rattle.division.proofs.Handed.{Sized, sized}
 use Rattle.division.proofs.Parts.{share-is, shares-sum, nothing-cut}
 use Rattle.division.proofs.Refusals as refusals
 use Rattle.division.proofs.Verdicts as verdicts
+use Rattle.division.proofs.Reasons as reasons
 use Rattle.division.proofs.Members.{no-quotient, no-remainder, share-alone, total-kept}
 
 -- there are as many shares as weights
@@ -136,6 +137,23 @@ enough-room pot weights room few =
     (λ (fits : length weights ≤ room).
     rw (le-ltb room (length weights) fits, le-ltb (min room mostWeights) (length weights) (omega arith)))
     (lt-or-le room (length weights))
+
+-- no refusal has a number above BASE
+zero-or-within : (n : ℕ) → (n ≢ 0 → n ≤ BASE) → n ≤ BASE
+zero-or-within n refused = ⊎-elim (λ (z : n ≡ 0). omega arith) refused (zero-or-not n)
+
+pub divide-number : (pot : ℕ) (weights : List ℕ) (room : ℕ) → divideRefusal pot weights room ≤ BASE
+divide-number pot weights room =
+    let n = divideRefusal pot weights room in
+    zero-or-within n (λ d. reasons.divide-within pot weights room n (reasons.divide-why pot weights room n (refl, d)))
+
+pub check-number : (pot : ℕ) (weights amounts : List ℕ) → numberOf (verdict pot weights amounts) ≤ BASE
+check-number pot weights amounts =
+    let n = numberOf (verdict pot weights amounts) in
+    zero-or-within n
+    (λ d.
+    reasons.check-within pot weights amounts n
+    (reasons.check-why pot weights amounts n (sym (verdicts.its-number pot weights amounts), d)))
 
 -- the lent words of an accepted division begin with the shares, and those of a refused one are as they were
 pub memory-accepted : (pot : ℕ) (weights out : List ℕ) → divideRefusal pot weights (length out) ≡ 0

@@ -7,6 +7,7 @@ pub mod Handed
 pub mod Refusals
 pub mod Heights
 pub mod Verdicts
+pub mod Reasons
 pub mod Parts
 pub mod Members
 pub mod Laws

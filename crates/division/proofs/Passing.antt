@@ -1,43 +1,29 @@
 -- Proofs of the promises: a division is level since no position that gets no cent has a larger remainder than one that gets one.
 -- Assumes nothing.
-use mathlib.Core.Path.{_≡_, refl, sym, ap, ap₂, _∙_, subst}
+use mathlib.Core.Path.{_≡_, refl, sym, ap, _∙_}
 use mathlib.Core.Logic.{_⊎_, inl, inr, ⊎-elim, _≢_, _↔_}
-use mathlib.Core.Bool.{Bool, true, false, true≢false, cond, _&&_, _||_, not}
+use mathlib.Core.Bool.{true, false, true≢false, cond, _||_, not}
 use mathlib.Core.List.{List}
 use Prim.Native.Nat.{ℕ, _+_, _-_, _*_, _≤_, _<_}
-use native.Mathlib.Nat.{le-trans}
 use native.Mathlib.Omega.{arith}
-use lib.Dec.{ltb, leb, eqb}
+use lib.Dec.{ltb, eqb}
 use lib.ListN.{length, List·getD-eq-default}
-use borrow.Author.Tests.{le-ltb, lt-ltb, le-leb, ltb-true, ltb-false, eq-eqb, ne-eqb, eqb-true, eqb-false, not-false}
-use Rattle.lists.specs.Sums.{sumTo, at, total, bit, count, rank, every}
+use borrow.Author.Tests.{lt-ltb, le-leb, ltb-true, ltb-false, eqb-true, eqb-false, not-false}
+use Rattle.lists.specs.Sums.{at, total, bit, rank}
 use Rattle.lists.proofs.Sums.{le-sum, sum-zero, every-from, neither}
 use Rattle.lists.proofs.Ranks.{lt-or-le, true-or-false, rank-less, larger-first, lower-first}
 use Rattle.answer.proofs.Turns.{look-none, zero-or-not}
-use Rattle.closeness.specs.Closeness.{apart, distance, Closest, level}
+use Rattle.closeness.specs.Closeness.{distance, Closest, level}
 use Rattle.closeness.proofs.Promises.{level-closest, closest-level, level-within-a-cent}
-use Rattle.division.specs.Limits.{mostWeights, potLimit, weightLimit, isBig, isBaseless, sizeRefusal, divideRefusal, checkRefusal}
+use Rattle.division.specs.Limits.{mostWeights, potLimit, weightLimit, divideRefusal, checkRefusal}
 use Rattle.division.specs.Shares.{quotient, remainder, leftover, comesBefore, getsCent, share, shares}
 use Rattle.division.specs.Check.{passes, verdict}
-use Rattle.division.specs.declared.Verdict.{Verdict}
-use Rattle.division.specs.declared.Verdict.the-variants.{Yes, No, Refused}
+use Rattle.division.specs.declared.Verdict.the-variants.{Yes, No}
 use Rattle.division.proofs.Laws as laws
-use Rattle.division.proofs.Parts.{exact, remainder-below, ordered, share-is, nothing-cut, larger-gets}
+use Rattle.division.proofs.Parts.{exact, remainder-below, ordered, share-is, larger-gets}
+use Rattle.division.proofs.Reasons.{fits-size}
 use Rattle.division.proofs.Refusals as refusals
 use Rattle.division.proofs.Verdicts as verdicts
-
--- sizes within their limits are not refused
-fits-size : (pot w : ℕ) → pot ≤ potLimit → w ≤ weightLimit → (w ≡ 0 → pot ≡ 0) → sizeRefusal pot w ≡ 0
-unfolding sizeRefusal
-fits-size pot w p q z =
-    ⊎-elim
-    (λ (e : w ≡ 0). simp (le-ltb potLimit pot p, le-ltb weightLimit w q, le-ltb 0 pot (let none : pot ≡ 0 = z e in omega arith)))
-    (λ (d : w ≢ 0). simp (le-ltb potLimit pot p, le-ltb weightLimit w q, ne-eqb w 0 d) (never (ltb 0 pot)))
-    (zero-or-not w)
-  where
-    never : (t : Bool) → _≡_ {A = ℕ} (cond (t && false) 9 0) 0
-    never true = refl
-    never false = refl
 
 pub divide-accepts : (pot : ℕ) (weights : List ℕ) (room : ℕ)
     → (divideRefusal pot weights room ≡ 0)

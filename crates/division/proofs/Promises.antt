@@ -1,19 +1,22 @@
 -- What is promised of every division and of every check, beyond their definitions. Nothing else stands here; the proofs cite
--- `Laws`, `Parts`, `Passing` and the theorem of `closeness`.
+-- `Parts`, `Reasons`, `Verdicts` and `Passing`.
 -- Assumes nothing.
-use mathlib.Core.Path.{_≡_, sym, ap, _∙_}
-use mathlib.Core.Logic.{_⊎_, _↔_}
-use mathlib.Core.Bool.{true, false}
+use mathlib.Core.Path.{_≡_, refl, sym}
+use mathlib.Core.Logic.{_⊎_, _↔_, _≢_}
+use mathlib.Core.Bool.{true}
 use mathlib.Core.List.{List}
 use Prim.Native.Nat.{ℕ, _+_, _≤_, _<_}
 use lib.ListN.{length}
 use Rattle.lists.specs.Sums.{at, total, count, bit}
 use Rattle.closeness.specs.Closeness.{distance, Closest}
 use Rattle.division.specs.Limits.{mostWeights, potLimit, weightLimit, divideRefusal, checkRefusal}
-use Rattle.division.specs.Shares.{quotient, remainder, leftover, getsCent, share, shares}
-use Rattle.division.specs.Check.{verdict}
-use Rattle.division.specs.declared.Verdict.the-variants.{Yes, No}
-use Rattle.division.proofs.Laws as laws
+use Rattle.division.specs.Shares.{quotient, remainder, leftover, getsCent, share, shares, Divided}
+use Rattle.division.specs.Check.{verdict, answerOf}
+use Rattle.division.specs.Refused.{DivideRefused, CheckRefused}
+use Rattle.division.specs.declared.Division.{Division}
+use Rattle.division.specs.declared.Verdict.the-variants.{Yes, No, Refused}
+use Rattle.division.proofs.Reasons as reasons
+use Rattle.division.proofs.Verdicts as verdicts
 use Rattle.division.proofs.Parts as parts
 use Rattle.division.proofs.Passing as passing
 
@@ -29,6 +32,31 @@ pub check-accepts : (pot : ℕ) (weights amounts : List ℕ)
     → (checkRefusal pot weights amounts ≡ 0)
     ↔ ((length weights ≤ mostWeights) × (length weights ≡ length amounts) × (pot ≤ potLimit) × (total weights ≤ weightLimit) × (total weights ≡ 0 → pot ≡ 0))
 check-accepts = passing.check-accepts
+
+-- a division is refused with a number exactly when that is the number of the first of COUNT, ROOM, BIG, BASE that holds
+pub divide-refused-why : (pot : ℕ) (weights : List ℕ) (room n : ℕ)
+    → ((divideRefusal pot weights room ≡ n) × (n ≢ 0)) ↔ DivideRefused pot weights room n
+divide-refused-why pot weights room n = (reasons.divide-why pot weights room n, reasons.why-divide pot weights room n)
+
+-- likewise the check with COUNT, BIG, BASE
+pub check-refused-why : (pot : ℕ) (weights amounts : List ℕ) (n : ℕ)
+    → ((checkRefusal pot weights amounts ≡ n) × (n ≢ 0)) ↔ CheckRefused pot weights amounts n
+check-refused-why pot weights amounts n = (reasons.check-why pot weights amounts n, reasons.why-check pot weights amounts n)
+
+-- "table and row are 0" in the answer of every division ..
+pub divide-answers : (pot : ℕ) (weights before after : List ℕ) (r : Division) → Divided pot weights before after r
+    → r .answer ≡ record { number = divideRefusal pot weights (length before); table = 0; row = 0 }
+divide-answers pot weights before after r d = λ i. record { number = d .number i; table = d .table i; row = d .row i }
+
+-- .. and in that of every check
+pub check-answers : (pot : ℕ) (weights amounts : List ℕ)
+    → answerOf (verdict pot weights amounts) ≡ record { number = checkRefusal pot weights amounts; table = 0; row = 0 }
+check-answers pot weights amounts = λ i. record { number = verdicts.its-number pot weights amounts i; table = 0; row = 0 }
+
+-- "A refused check says neither yes nor no"
+pub refused-says-neither : (pot : ℕ) (weights amounts : List ℕ) → checkRefusal pot weights amounts ≢ 0
+    → verdict pot weights amounts ≡ Refused (checkRefusal pot weights amounts)
+refused-says-neither pot weights amounts d = sym (verdicts.refused pot weights amounts (checkRefusal pot weights amounts) refl d)
 
 -- the shares add up to the pot
 pub shares-add-up : (pot : ℕ) (weights : List ℕ) → 0 < total weights → total (shares pot weights) ≡ pot

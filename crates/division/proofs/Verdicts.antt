@@ -1,6 +1,7 @@
 -- The check's answer, from the tests that the code makes in turn.
 -- Assumes nothing.
 use mathlib.Core.Path.{_≡_, refl, sym, ap, _∙_}
+use mathlib.Core.Logic.{⊎-elim, _≢_}
 use mathlib.Core.Bool.{Bool, true, false, cond}
 use mathlib.Core.List.{List}
 use Prim.Native.Nat.{ℕ, _+_, _≤_, _<_, min}
@@ -9,9 +10,10 @@ use lib.Dec.{ltb, eqb}
 use lib.ListN.{length}
 use borrow.Author.Tests.{lt-ltb, le-ltb, eq-eqb, ne-eqb}
 use Rattle.lists.specs.Sums.{total}
+use Rattle.answer.proofs.Turns.{zero-or-not}
 use Rattle.closeness.specs.Closeness.{level}
 use Rattle.division.specs.Limits.{mostWeights, potLimit, sizeRefusal, checkRefusal}
-use Rattle.division.specs.Check.{passes, verdict}
+use Rattle.division.specs.Check.{passes, verdict, numberOf}
 use Rattle.division.specs.declared.Verdict.{Verdict}
 use Rattle.division.specs.declared.Verdict.the-variants.{Yes, No, Refused}
 
@@ -38,6 +40,18 @@ module _ (pot : ℕ) (weights amounts : List ℕ) where
   pub said : checkRefusal pot weights amounts ≡ 0 → verdict pot weights amounts ≡ cond (passes pot weights amounts) Yes No
   unfolding verdict
   said e = rw (eq-eqb (checkRefusal pot weights amounts) 0 e)
+
+  -- its number is the refusal's, 0 where nothing is refused
+  pub its-number : numberOf (verdict pot weights amounts) ≡ checkRefusal pot weights amounts
+  its-number =
+      ⊎-elim
+      (λ (e : checkRefusal pot weights amounts ≡ 0). ap numberOf (said e) ∙ neither-refuses (passes pot weights amounts) ∙ sym e)
+      (λ (d : checkRefusal pot weights amounts ≢ 0). ap numberOf (sym (refused (checkRefusal pot weights amounts) refl d)))
+      (zero-or-not (checkRefusal pot weights amounts))
+    where
+      neither-refuses : (t : Bool) → numberOf (cond t Yes No) ≡ 0
+      neither-refuses true = refl
+      neither-refuses false = refl
 
   pub wrong-sum : (total amounts ≡ pot → ⊥) → passes pot weights amounts ≡ false
   unfolding passes

@@ -5,6 +5,8 @@ use mathlib.Core.Bool.{Bool, _&&_, cond}
 use mathlib.Core.List.{List}
 use lib.Dec.{eqb}
 use Rattle.lists.specs.Sums.{total}
+use Rattle.answer.specs.declared.Answer.{Answer}
+use Rattle.answer.specs.Numbers.{head}
 use Rattle.closeness.specs.Closeness.{level}
 use Rattle.division.specs.Limits.{checkRefusal}
 use Rattle.division.specs.declared.Verdict.{Verdict}
@@ -33,3 +35,7 @@ abbrev pub valueOf : Verdict → ℕ
 valueOf Yes = 1
 valueOf No = 0
 valueOf (Refused number) = 0
+
+-- "The answer is number, table, row": that of each case; "table and row are 0"
+abbrev pub answerOf : Verdict → Answer
+answerOf said = record { number = numberOf said; table = head; row = 0 }

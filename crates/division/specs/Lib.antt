@@ -1,4 +1,5 @@
 pub mod Limits
 pub mod Shares
 pub mod Check
+pub mod Refused
 pub mod Steps

@@ -39,7 +39,8 @@ whole-words these those e =
     }
 
 module _ (pot : ℕ) (weights amounts : List ℕ) where
-  refusal-even : WholeWords weights amounts → hostDivideRefusal pot weights amounts ≡ divideRefusal pot (numbers weights) (length amounts / 8)
+  -- of whole words the numbers are judged
+  pub refusal-even : WholeWords weights amounts → hostDivideRefusal pot weights amounts ≡ divideRefusal pot (numbers weights) (length amounts / 8)
   unfolding hostDivideRefusal
   refusal-even w = ap (λ t. cond t 1 (divideRefusal pot (numbers weights) (length amounts / 8))) (even weights amounts w)
 

@@ -1,15 +1,20 @@
--- What is promised of the phone app's calls, beyond their definitions. Nothing else stands here; the proofs are in `Digits` and
--- `Reading`.
+-- What is promised of the phone app's calls, beyond their definitions. Nothing else stands here; the proofs are in `Digits`,
+-- `Calls` and `Reading`.
 -- Assumes nothing.
-use mathlib.Core.Path.{_≡_}
+use mathlib.Core.Path.{_≡_, sym, subst}
+use mathlib.Core.Logic.{_⊎_, _≢_}
 use mathlib.Core.List.{List}
 use Prim.Native.Nat.{ℕ, _/_, _%_, _^_, _<_}
-use lib.ListN.{length, take}
+use lib.ListN.{length, take, drop}
 use Rattle.lists.specs.Sums.{at}
+use Rattle.answer.specs.Numbers.{COUNT}
+use Rattle.division.specs.Limits.{divideRefusal}
 use Rattle.division.specs.Shares.{shares}
+use Rattle.division.specs.Check.{verdict, numberOf, valueOf}
 use Rattle.host.specs.Words.{numbers, bytes}
-use Rattle.host.specs.Calls.{word, hostDivideRefusal, hostMemory, hostVerdict}
+use Rattle.host.specs.Calls.{word, hostDivideRefusal, hostMemory, HostDivided, hostVerdict}
 use Rattle.host.proofs.Digits as digits
+use Rattle.host.proofs.Calls as calls
 use Rattle.host.proofs.Reading as reading
 
 -- numbers below 2^64 that are written as bytes and read again are the same numbers ..
@@ -28,3 +33,42 @@ answer-in-parts = reading.answer-in-parts
 pub shares-in-bytes : (pot : ℕ) (weights amounts : List ℕ) → hostDivideRefusal pot weights amounts ≡ 0
     → numbers (take (length weights) (hostMemory pot weights amounts)) ≡ shares pot (numbers weights)
 shares-in-bytes = reading.shares-in-bytes
+
+-- a refusal leaves the lent bytes as they were
+pub refusal-leaves-bytes : (pot : ℕ) (weights amounts : List ℕ) → hostDivideRefusal pot weights amounts ≢ 0
+    → hostMemory pot weights amounts ≡ amounts
+refusal-leaves-bytes = reading.memory-refused
+
+-- no byte behind the amounts is touched, and none is added
+pub bytes-behind-untouched : (pot : ℕ) (weights amounts : List ℕ)
+    → (drop (length weights) (hostMemory pot weights amounts) ≡ drop (length weights) amounts)
+    × (length (hostMemory pot weights amounts) ≡ length amounts)
+bytes-behind-untouched = reading.untouched
+
+-- "a byte length that isn't a multiple of eight is COUNT" for the division ..
+pub uneven-divide-count : (pot : ℕ) (weights amounts : List ℕ) → (length weights % 8 ≢ 0) ⊎ (length amounts % 8 ≢ 0)
+    → hostDivideRefusal pot weights amounts ≡ COUNT
+uneven-divide-count pot weights amounts d = calls.divide-uneven pot weights amounts (reading.uneven weights amounts d)
+
+-- .. and for the check, which then has no value
+pub uneven-check-count : (pot : ℕ) (weights amounts : List ℕ) → (length weights % 8 ≢ 0) ⊎ (length amounts % 8 ≢ 0)
+    → hostVerdict pot weights amounts ≡ word COUNT 0
+uneven-check-count pot weights amounts d = sym (calls.check-uneven pot weights amounts (reading.uneven weights amounts d))
+
+-- of whole words a division is refused as that of the numbers
+pub whole-words-divide : (pot : ℕ) (weights amounts : List ℕ) → length weights % 8 ≡ 0 → length amounts % 8 ≡ 0
+    → hostDivideRefusal pot weights amounts ≡ divideRefusal pot (numbers weights) (length amounts / 8)
+whole-words-divide pot weights amounts e f = calls.refusal-even pot weights amounts (record { these-whole = e; those-whole = f })
+
+-- the low byte of a division's answer is the refusal's number, 0 where it is accepted, and the bits above it are 0
+pub divide-in-parts : (pot : ℕ) (weights before after : List ℕ) (r : ℕ) → HostDivided pot weights before after r
+    → (r % 256 ≡ hostDivideRefusal pot weights before) × (r / 256 ≡ 0)
+divide-in-parts pot weights before after r d =
+    subst (λ a. (a % 256 ≡ hostDivideRefusal pot weights before) × (a / 256 ≡ 0)) (sym (d .answer))
+    (answer-in-parts (hostDivideRefusal pot weights before) 0 (reading.number-fits pot weights before))
+
+-- of whole words the low byte of a check's answer is the refusal's number, and the bits above it are 1 for yes and else 0
+pub check-in-parts : (pot : ℕ) (weights amounts : List ℕ) → length weights % 8 ≡ 0 → length amounts % 8 ≡ 0
+    → (hostVerdict pot weights amounts % 256 ≡ numberOf (verdict pot (numbers weights) (numbers amounts)))
+    × (hostVerdict pot weights amounts / 256 ≡ valueOf (verdict pot (numbers weights) (numbers amounts)))
+check-in-parts pot weights amounts e f = reading.said-in-parts pot weights amounts (record { these-whole = e; those-whole = f })

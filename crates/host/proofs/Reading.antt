@@ -1,47 +1,111 @@
--- Reading what a call leaves: a share is at most the pot, so it fits a word, and its bytes read as the share.
+-- Reading what a call leaves: a share is at most the pot, so it fits a word, and its bytes read as the share; a refusal's number
+-- fits a byte.
 -- Assumes nothing.
-use mathlib.Core.Path.{_≡_, sym, ap, _∙_}
-use mathlib.Core.Bool.{true, false, cond}
-use mathlib.Core.Logic.{⊎-elim}
+use mathlib.Core.Path.{_≡_, refl, sym, ap, _∙_, subst}
+use mathlib.Core.Bool.{true, false, cond, or-true}
+use mathlib.Core.Logic.{_⊎_, ⊎-elim, _≢_}
 use mathlib.Core.List.{List, _++_}
-use Prim.Native.Nat.{ℕ, _+_, _*_, _/_, _%_, _^_, _≤_, _<_}
+use Prim.Native.Nat.{ℕ, _+_, _*_, _/_, _%_, _≤_, _<_}
 use native.Mathlib.Omega.{arith}
-use lib.Dec.{eqb}
-use lib.ListN.{length, take, drop}
-use lib.Seq.{take-at}
-use borrow.Author.Tests.{eq-eqb, eqb-true}
+use lib.ListN.{length, take, drop, length-append, length-drop}
+use lib.Seq.{take-at, drop-at}
+use borrow.Author.Tests.{eq-eqb, ne-eqb}
+use Rattle.lists.proofs.Ranks.{true-or-false}
 use Rattle.lists.proofs.Entries.{length-listed}
-use Rattle.answer.proofs.Turns.{look-none}
+use Rattle.answer.proofs.Turns.{look-none, zero-or-not}
 use Rattle.division.specs.Limits.{divideRefusal}
 use Rattle.division.specs.Shares.{shares}
+use Rattle.division.specs.Check.{verdict, numberOf, valueOf}
 use Rattle.division.proofs.Laws as laws
 use Rattle.host.specs.Words.{isUneven, numbers, bytes}
-use Rattle.host.specs.Stores.{byteAt}
-use Rattle.host.specs.Calls.{word, hostDivideRefusal, hostMemory}
+use Rattle.host.specs.Stores.{byteAt, WholeWords}
+use Rattle.host.specs.Calls.{word, hostDivideRefusal, hostMemory, hostVerdict}
 use Rattle.host.proofs.Digits.{numbers-bytes, length-numbers}
-use Rattle.host.proofs.Calls.{whole-words}
+use Rattle.host.proofs.Calls as calls
 
 pub answer-in-parts : (number value : ℕ) → number < 256 → (word number value % 256 ≡ number) × (word number value / 256 ≡ value)
 answer-in-parts number value b = (omega arith, omega arith)
+
+pub uneven : (these those : List ℕ) → (length these % 8 ≢ 0) ⊎ (length those % 8 ≢ 0) → isUneven (length these) (length those) ≡ true
+uneven these those d =
+    ⊎-elim
+    (λ (first : length these % 8 ≢ 0). rw (ne-eqb (length these % 8) 0 first))
+    (λ (second : length those % 8 ≢ 0). simp (or-true, ne-eqb (length those % 8) 0 second))
+    d
 
 length-bytes : (ns : List ℕ) → length (bytes ns) ≡ 8 * length ns
 unfolding bytes
 length-bytes ns = length-listed (8 * length ns) (byteAt ns)
 
-pub shares-in-bytes : (pot : ℕ) (weights amounts : List ℕ) → hostDivideRefusal pot weights amounts ≡ 0
-    → numbers (take (length weights) (hostMemory pot weights amounts)) ≡ shares pot (numbers weights)
-unfolding hostMemory hostDivideRefusal
-shares-in-bytes pot weights amounts e =
-    let looked = look-none (isUneven (length weights) (length amounts)) 1 (divideRefusal pot (numbers weights) (length amounts / 8)) (λ q. omega arith) e in
-    let good = laws.divide-accepted pot (numbers weights) (length amounts / 8) (looked .1) in
-    let whole : length weights % 8 ≡ 0 = whole-words weights amounts (looked .0) .these-whole in
-    let long : length (bytes (shares pot (numbers weights))) ≡ length weights =
-    length-bytes (shares pot (numbers weights))
-    ∙ ap (λ n. 8 * n) (laws.length-shares pot (numbers weights) ∙ length-numbers weights)
-    ∙ (let all : 8 * (length weights / 8) ≡ length weights = omega arith in all) in
-    ap (λ m. numbers (take (length weights) m))
-    (ap (λ t. cond t (bytes (shares pot (numbers weights)) ++ drop (length weights) amounts) amounts)
-    (eq-eqb (hostDivideRefusal pot weights amounts) 0 e))
-    ∙ ap numbers (take-at (bytes (shares pot (numbers weights))) (drop (length weights) amounts) (length weights) long)
-    ∙ numbers-bytes (shares pot (numbers weights))
-    (λ i b. let small = laws.share-within pot (numbers weights) (good .4) i in omega (arith, small, good .2))
+module _ (pot : ℕ) (weights amounts : List ℕ) where
+  pub number-fits : hostDivideRefusal pot weights amounts < 256
+  number-fits =
+      ⊎-elim
+      (λ (odd : isUneven (length weights) (length amounts) ≡ true). omega (arith, calls.divide-uneven pot weights amounts odd))
+      (λ (even : isUneven (length weights) (length amounts) ≡ false).
+      omega (arith, calls.refusal-even pot weights amounts (calls.whole-words weights amounts even), laws.divide-number pot (numbers weights) (length amounts / 8)))
+      (true-or-false (isUneven (length weights) (length amounts)))
+
+  pub said-in-parts : WholeWords weights amounts
+      → (hostVerdict pot weights amounts % 256 ≡ numberOf (verdict pot (numbers weights) (numbers amounts)))
+      × (hostVerdict pot weights amounts / 256 ≡ valueOf (verdict pot (numbers weights) (numbers amounts)))
+  said-in-parts w =
+      let said = verdict pot (numbers weights) (numbers amounts) in
+      let small : numberOf said < 256 = omega (arith, laws.check-number pot (numbers weights) (numbers amounts)) in
+      subst (λ r. (r % 256 ≡ numberOf said) × (r / 256 ≡ valueOf said)) (calls.said pot weights amounts w said refl)
+      (answer-in-parts (numberOf said) (valueOf said) small)
+
+  pub memory-refused : hostDivideRefusal pot weights amounts ≢ 0 → hostMemory pot weights amounts ≡ amounts
+  memory-refused d = sym (calls.refused pot weights amounts (hostDivideRefusal pot weights amounts) refl d .lent)
+
+  -- where a division is accepted
+  module _ (e : hostDivideRefusal pot weights amounts ≡ 0) where
+    looked : (isUneven (length weights) (length amounts) ≡ false) × (divideRefusal pot (numbers weights) (length amounts / 8) ≡ 0)
+    unfolding hostDivideRefusal
+    looked = look-none (isUneven (length weights) (length amounts)) 1 (divideRefusal pot (numbers weights) (length amounts / 8)) (λ q. omega arith) e
+
+    whole : WholeWords weights amounts
+    whole = calls.whole-words weights amounts (looked .0)
+
+    long : length (bytes (shares pot (numbers weights))) ≡ length weights
+    long =
+        length-bytes (shares pot (numbers weights))
+        ∙ ap (λ n. 8 * n) (laws.length-shares pot (numbers weights) ∙ length-numbers weights)
+        ∙ (let all : 8 * (length weights / 8) ≡ length weights = omega (arith, whole .these-whole) in all)
+
+    memory-is : hostMemory pot weights amounts ≡ bytes (shares pot (numbers weights)) ++ drop (length weights) amounts
+    unfolding hostMemory
+    memory-is =
+        ap (λ t. cond t (bytes (shares pot (numbers weights)) ++ drop (length weights) amounts) amounts)
+        (eq-eqb (hostDivideRefusal pot weights amounts) 0 e)
+
+    pub shares-in-bytes : numbers (take (length weights) (hostMemory pot weights amounts)) ≡ shares pot (numbers weights)
+    shares-in-bytes =
+        let good = laws.divide-accepted pot (numbers weights) (length amounts / 8) (looked .1) in
+        ap (λ m. numbers (take (length weights) m)) memory-is
+        ∙ ap numbers (take-at (bytes (shares pot (numbers weights))) (drop (length weights) amounts) (length weights) long)
+        ∙ numbers-bytes (shares pot (numbers weights))
+        (λ i b. let small = laws.share-within pot (numbers weights) (good .4) i in omega (arith, small, good .2))
+
+    behind : drop (length weights) (hostMemory pot weights amounts) ≡ drop (length weights) amounts
+    behind =
+        ap (drop (length weights)) memory-is
+        ∙ drop-at (bytes (shares pot (numbers weights))) (drop (length weights) amounts) (length weights) long
+
+    same-length : length (hostMemory pot weights amounts) ≡ length amounts
+    same-length =
+        let room : length (numbers weights) ≤ length amounts / 8 =
+        laws.divide-accepted pot (numbers weights) (length amounts / 8) (looked .1) .1 in
+        ap length memory-is
+        ∙ length-append (bytes (shares pot (numbers weights))) (drop (length weights) amounts)
+        ∙ (let sum : length (bytes (shares pot (numbers weights))) + length (drop (length weights) amounts) ≡ length amounts =
+        omega (arith, long, length-drop (length weights) amounts, length-numbers weights, whole .these-whole) in sum)
+
+  pub untouched :
+      (drop (length weights) (hostMemory pot weights amounts) ≡ drop (length weights) amounts)
+      × (length (hostMemory pot weights amounts) ≡ length amounts)
+  untouched =
+      ⊎-elim
+      (λ (e : hostDivideRefusal pot weights amounts ≡ 0). (behind e, same-length e))
+      (λ (d : hostDivideRefusal pot weights amounts ≢ 0). (ap (drop (length weights)) (memory-refused d), ap length (memory-refused d)))
+      (zero-or-not (hostDivideRefusal pot weights amounts))

@@ -2,3 +2,4 @@ pub mod Sums
 pub mod Entries
 pub mod Ranks
 pub mod Members
+pub mod Unique

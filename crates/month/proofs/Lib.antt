@@ -1,4 +1,5 @@
 pub mod Months
+pub mod Calendar
 pub mod Quantities
 pub mod Promises
 pub mod Unique

@@ -44,15 +44,24 @@ lengths-within : (i : ℕ) → i < months → at lengths i ≤ mostDays
 unfolding every
 lengths-within i h = leb-true _ _ (every-at months (λ k. leb (at lengths k) mostDays) refl i h)
 
+-- a length is the list's, or the longer one of February
+pub length-is : (month days : ℕ) → isLength month days ≡ true → (days ≡ at lengths (month - 1)) ⊎ ((month ≡ february) × (days ≡ leapLength))
+length-is month days e =
+    ⊎-elim
+    (λ (p : eqb days (at lengths (month - 1)) ≡ true). inl (eqb-true days (at lengths (month - 1)) p))
+    (λ (p : (eqb month february && eqb days leapLength) ≡ true).
+    let both = and-eq-true-iff (eqb month february) (eqb days leapLength) .0 p in
+    inr (eqb-true month february (both .0), eqb-true days leapLength (both .1)))
+    (either (eqb days (at lengths (month - 1))) (eqb month february && eqb days leapLength) e)
+
 length-within : (month days : ℕ) → month ≤ months → isLength month days ≡ true → days ≤ mostDays
 length-within month days h e =
     ⊎-elim
-    (λ (p : eqb days (at lengths (month - 1)) ≡ true).
+    (λ (p : days ≡ at lengths (month - 1)).
     let place : month - 1 < months = omega arith in
-    omega (arith, lengths-within (month - 1) place, eqb-true days (at lengths (month - 1)) p))
-    (λ (p : (eqb month february && eqb days leapLength) ≡ true).
-    omega (arith, eqb-true days leapLength (and-eq-true-iff (eqb month february) (eqb days leapLength) .0 p .1)))
-    (either (eqb days (at lengths (month - 1))) (eqb month february && eqb days leapLength) e)
+    omega (arith, lengths-within (month - 1) place))
+    (λ (p : (month ≡ february) × (days ≡ leapLength)). omega (arith, p .1))
+    (length-is month days e)
 
 -- a month is one of twelve and has no more days than the longest
 pub record InYear (month days : ℕ) : Type 0 where

@@ -3,15 +3,17 @@
 use mathlib.Core.Path.{_≡_, sym, ap, _∙_}
 use mathlib.Core.Logic.{_⊎_, ⊎-elim}
 use mathlib.Core.Bool.{true, false}
+use mathlib.Core.List.{[], _∷_}
 use Prim.Native.Nat.{ℕ, _+_, _≤_, _<_}
 use native.Mathlib.Nat.{le-trans, le-of-eq}
 use native.Mathlib.Omega.{arith}
 use lib.Dec.{ltb, lit<}
 use borrow.Author.Tests.{ltb-false}
 use Rattle.lists.specs.Sums.{sumTo, at, total, when}
+use Rattle.lists.specs.Entries.{listed}
 use Rattle.lists.proofs.Sums.{sum-eq, sum-zero, sum-le}
 use Rattle.lists.proofs.Ranks.{true-or-false}
-use Rattle.lists.proofs.Entries.{total-listed}
+use Rattle.lists.proofs.Entries.{total-listed, listed-at}
 use Rattle.answer.specs.Numbers.{BIG, BASE}
 use Rattle.division.specs.Limits.{potLimit, weightLimit}
 use Rattle.division.specs.Shares.{shares}
@@ -25,6 +27,15 @@ use Rattle.service.specs.Turn.{splitRefusal, shareRefusal, nonzoneRefusa
 pub uses-add-up : (s : Service) → total (uses s) ≡ zoneUse s + nonzoneUse s
 unfolding uses sumTo
 uses-add-up s = omega arith
+
+-- a zone's pot by all zone use and all non-zone use is its two sides, and no more
+pub split-by-uses : (s : Service) (z : ℕ)
+    → (zoneSide s z ∷ nonzoneSide s z ∷ [])
+    ≡ shares (s .pot z) (sumTo (s .accounts) (s .zonePart) ∷ sumTo (s .accounts) (s .nonzonePart) ∷ [])
+unfolding zoneSide nonzoneSide uses zoneUse nonzoneUse listed
+split-by-uses s z =
+    ap (λ n. listed n (at (shares (s .pot z) (uses s)))) (sym (length-shares (s .pot z) (uses s)))
+    ∙ listed-at (shares (s .pot z) (uses s))
 
 module _ (s : Service) (z : ℕ) (fine : splitRefusal s z ≡ 0) where
   base : total (uses s) ≡ 0 → s .pot z ≡ 0

@@ -3,6 +3,7 @@
 -- Assumes nothing.
 use mathlib.Core.Path.{_≡_, sym, ap, ap₂, _∙_}
 use mathlib.Core.Logic.{_↔_, ⊎-elim, _≢_}
+use mathlib.Core.List.{[], _∷_}
 use Prim.Native.Nat.{ℕ, _+_, _≤_, _<_}
 use native.Mathlib.Nat.{zero-add}
 use native.Mathlib.Omega.{arith}
@@ -38,7 +39,13 @@ use Rattle.service.proofs.Turns as turns
 pub accepted-exactly : (s : Service) (place : ℕ) → (serviceInTurn s place .number ≡ 0) ↔ Accepted s
 accepted-exactly s place = (turns.accepted-fine s place, λ all. ap (λ (r : Answer). r .number) (turns.fine-accepted s place all))
 
--- each zone's pot is split without loss
+-- the two sides of a zone's pot are its division by all zone use and all non-zone use ..
+pub split-by-uses : (s : Service) (z : ℕ)
+    → (zoneSide s z ∷ nonzoneSide s z ∷ [])
+    ≡ shares (s .pot z) (sumTo (s .accounts) (s .zonePart) ∷ sumTo (s .accounts) (s .nonzonePart) ∷ [])
+split-by-uses = laws.split-by-uses
+
+-- .. without loss
 pub split-without-loss : (s : Service) → Accepted s → (z : ℕ) → z < s .zones → zoneSide s z + nonzoneSide s z ≡ s .pot z
 split-without-loss s all z b = laws.sides-add-up s z (all .split-fine z b)
 
@@ -96,6 +103,16 @@ charge-at-the-border s all a b none =
     ap (λ n. n + nonzoneShare s a)
     (groupless-none (zoneSides s) (all .share-fine) a b (λ z l. ne-eqb (s .zoneOf a) (s .zoneNumber z) (none z l)))
     ∙ zero-add (nonzoneShare s a)
+
+-- "zone 0": where no zone has that number, an account in it has no part in any zone side ..
+pub border-has-no-zone-side : (s : Service) → Accepted s → ((z : ℕ) → z < s .zones → s .zoneNumber z ≢ 0)
+    → (a : ℕ) → a < s .accounts → s .zoneOf a ≡ 0 → (z : ℕ) → z < s .zones → zoneShare s z a ≡ 0
+border-has-no-zone-side s all named a b e z l = zone-side-to-nobody-else s all z a l b (λ same. named z l (sym same ∙ e))
+
+-- .. and where all non-zone use is that of zone 0, an account outside it has no part in the non-zone sides
+pub zone-has-no-nonzone-side : (s : Service) → Accepted s → ((a : ℕ) → a < s .accounts → s .zoneOf a ≢ 0 → s .nonzonePart a ≡ 0)
+    → (a : ℕ) → a < s .accounts → s .zoneOf a ≢ 0 → nonzoneShare s a ≡ 0
+zone-has-no-nonzone-side s all parts a b d = nonzone-sides-to-nobody-else s all a b (parts a b d)
 
 -- the paper's words, "divided among that zone's accounts by use": an account's share is what it has where the zone's accounts are
 -- a list of their own, at its place among them ..

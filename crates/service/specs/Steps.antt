@@ -18,7 +18,8 @@ use Rattle.service.specs.Turn.{splitRefusal, zoneTurn, serviceInTurn}
 use Rattle.service.specs.declared.Sides.{Sides}
 use Rattle.service.specs.declared.ZoneCharged.{ZoneCharged}
 
--- Lists that go together: a pot for each zone's number, a zone and two parts for each account, and parts that add up to a word.
+-- Lists that go together: a pot for each zone's number, a zone and two parts for each account, at most 64 zones and 64 accounts (the
+-- paper has 16 and 32), and parts that add up to a word.
 pub record Lent (pots numbers zoneparts nonzoneparts zones : List ℕ) : Type 0 where
   pub together : Together pots numbers zoneparts zones
   pub both-parts : length nonzoneparts ≡ length zoneparts

@@ -153,6 +153,21 @@ module _ (month days nonzone : ℕ) (t : Tables) (lentCharges lentCredits : ℕ)
   not-both a (by-nonzone e all roomy m high) good = omega (arith, good .frame .nonzone-in-range .most)
   not-both a (by-row table i n e at) good = row-not-both days t table i n (at .broken) (good .tables table i (at .is-row))
 
+  -- what is refused with MONTH is no month
+  broken-not-month : (table : Table) (i n : ℕ) → FirstBroken days t table i n → n ≢ MONTH
+  broken-not-month table i n (by-range e out) z = omega arith
+  broken-not-month table i n (by-order e r not-above) z = omega arith
+  broken-not-month table i n (by-link e r o missing) z = omega arith
+  broken-not-month table i n (by-pair e r o l taken) z = omega arith
+
+  pub month-why : (a : Answer) → Why a → a .number ≡ MONTH → isMonth month days ≡ false
+  month-why a (by-count table e before short) z = absurd (omega (arith, ap (λ (b : Answer). b .number) e))
+  month-why a (by-charges e all short) z = absurd (omega (arith, ap (λ (b : Answer). b .number) e))
+  month-why a (by-credits e all fit short) z = absurd (omega (arith, ap (λ (b : Answer). b .number) e))
+  month-why a (by-month e all roomy bad) z = bad
+  month-why a (by-nonzone e all roomy m high) z = absurd (omega (arith, ap (λ (b : Answer). b .number) e))
+  month-why a (by-row table i n e at) z = absurd (broken-not-month table i n (at .broken) (sym (ap (λ (b : Answer). b .number) e) ∙ z))
+
   pub good-unrefused : GoodMonth month days nonzone t lentCharges lentCredits → judged month days nonzone t lentCharges lentCredits ≡ accepted
   good-unrefused good =
       elim judged-stage as (λ s. judged month days nonzone t lentCharges lentCredits ≡ accepted)

@@ -84,15 +84,17 @@ InRange days t Accounts i = AccountInRange (t .accounts) i
 InRange days t Loads i = LoadInRange days (t .loads) i
 InRange days t Reservations i = ReservationInRange (t .reservations) i
 
--- row i stands above row j
+-- row i stands above row j, the lower row being named first: by its first entry ..
 abbrev pub FirstAbove : Table → List ℕ → ℕ → ℕ → Type 0
 FirstAbove table words j i = entry table 0 words j < entry table 0 words i
 
+-- .. and a load "by account, then day"
 abbrev pub LoadAbove : List ℕ → ℕ → ℕ → Type 0
 LoadAbove loads j i =
     (loadAccount loads j < loadAccount loads i)
     ⊎ ((loadAccount loads j ≡ loadAccount loads i) × (loadDay loads j < loadDay loads i))
 
+-- `Above t table j i`: row i of a table stands above its row j
 abbrev pub Above : Tables → Table → ℕ → ℕ → Type 0
 Above t Zones = FirstAbove Zones (t .zones)
 Above t Owners = FirstAbove Owners (t .owners)

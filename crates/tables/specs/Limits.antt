@@ -1,4 +1,4 @@
--- The ranges of the entries that no month's arithmetic is done on; the others are among the limits of `month`.
+-- The ranges of the entries that `month` has no limit for: the numbers that name rows, the service and the reserve credit.
 -- Assumes nothing.
 use Prim.Native.Nat.{ℕ, _^_}
 use mathlib.Core.Bool.{cond}

@@ -149,7 +149,7 @@ unfoldable pub reservationOutside : ℕ → ℕ → ℕ → Bool
 reservationOutside account reserved curtailed =
     outside 1 lastAccount account || outside 0 mostEnergy reserved || outside 0 mostEnergy curtailed || outside 0 reserved curtailed
 
--- .. "an account with no reservation row has none", and none has two
+-- .. "reservations strictly ascend by their first entry", so that no account has two
 unfoldable pub reservationRow : List ℕ → List ℕ → ℕ → ℕ
 reservationRow accounts reservations i =
     rowNumber

@@ -5,3 +5,4 @@ pub mod Stores
 pub mod Places
 pub mod Pieces
 pub mod Readers
+pub mod Unique

@@ -1,7 +1,7 @@
--- Steps of a reader: a line ends behind its beginning, what a step reaches is what the scanner answers, and a step has one outcome.
+-- Steps of a reader: a line ends behind its beginning, and what a step reaches is what the scanner answers.
 -- Assumes nothing.
 use mathlib.Core.Path.{_≡_, refl, sym, ap, _∙_, subst}
-use mathlib.Core.Logic.{_≢_, _⊎_, inl, inr}
+use mathlib.Core.Logic.{_≢_}
 use mathlib.Core.Bool.{Bool, true, false, cond}
 use mathlib.Core.List.{List}
 use Prim.Native.Nat.{ℕ, _+_, _-_, _≤_, _<_}
@@ -10,13 +10,11 @@ use lib.Dec.{eqb}
 use lib.ListN.{length, drop, length-drop, length-append}
 use borrow.Author.Tests.{eqb-true, eqb-false}
 use denote.Ref.{RefT, now}
-use Rattle.lists.proofs.Ranks.{true-or-false}
 use Rattle.text.specs.declared.reader.Reader.{Reader}
 use Rattle.text.specs.Numbers.{Found, found, missing}
 use Rattle.text.specs.Lines.{line, lineText, fieldsText}
-use Rattle.text.specs.Places.{LineAt, EndAt, restOf}
+use Rattle.text.specs.Places.{LineAt, EndAt}
 use Rattle.text.specs.Readers.{Stepped, reachedOf}
-use Rattle.text.proofs.Numbers.{never}
 use Rattle.text.proofs.Lines.{Line, line-back}
 use Rattle.text.proofs.Pieces.{length-key}
 
@@ -75,52 +73,3 @@ next-line-is text i key width made moved r e a q =
     subst (λ j. EndAt (now text) j (line key width (drop j (now text))) (moved .at)) (e .1) there in
     subst (LineAt (now text) (line key width (drop i (now text)))) (sym q)
     (reached-is (now text) i (line key width (drop i (now text))) (moved .at) here)
-
--- an offset that stands for a line that was read up to it, but for one that stands for none
-Stands : List ℕ → Found (List ℕ) → ℕ → ℕ → Type 0
-Stands s o none n = (n ≢ none → (n ≤ length s) × ((ns : List ℕ) × (o ≡ found ns (drop n s)))) × (n ≡ none → o ≡ missing)
-
-same-end : (s : List ℕ) (o : Found (List ℕ)) (n m : ℕ) (ns ms : List ℕ) → n ≤ length s → m ≤ length s
-    → o ≡ found ns (drop n s) → o ≡ found ms (drop m s) → n ≡ m
-same-end s o n m ns ms h k p q =
-    let rests : drop n s ≡ drop m s = ap restOf (sym p ∙ q) in
-    let left : length s - n ≡ length s - m = sym (length-drop n s) ∙ ap length rests ∙ length-drop m s in
-    omega arith
-
-same-place : (s : List ℕ) (o : Found (List ℕ)) (none n m : ℕ) → Stands s o none n → Stands s o none m → n ≡ m
-unfolding Stands
-same-place s o none n m a b = go (true-or-false (eqb n none)) (true-or-false (eqb m none))
-  where
-    go : (eqb n none ≡ true) ⊎ (eqb n none ≡ false) → (eqb m none ≡ true) ⊎ (eqb m none ≡ false) → n ≡ m
-    go (inl e) (inl f) = eqb-true n none e ∙ sym (eqb-true m none f)
-    go (inl e) (inr f) = absurd (never (a .1 (eqb-true n none e)) (b .0 (eqb-false m none f) .1 .1))
-    go (inr e) (inl f) = absurd (never (b .1 (eqb-true m none f)) (a .0 (eqb-false n none e) .1 .1))
-    go (inr e) (inr f) =
-        let x = a .0 (eqb-false n none e) in
-        let y = b .0 (eqb-false m none f) in
-        same-end s o n m (x .1 .0) (y .1 .0) (x .0) (y .0) (x .1 .1) (y .1 .1)
-
--- two offsets, and two readers, that the contracts allow are equal
-pub next-line-unique : (s : List ℕ) (o : Found (List ℕ)) (n m : ℕ) → LineAt s o n → LineAt s o m → n ≡ m
-unfolding Stands
-next-line-unique s o n m a b =
-    same-place s o 0 n m ((λ d. (a .inside, a .fits d)), a .unfit) ((λ d. (b .inside, b .fits d)), b .unfit)
-
-pub line-end-unique : (s : List ℕ) (i : ℕ) (o : Found (List ℕ)) (n m : ℕ) → EndAt s i o n → EndAt s i o m → n ≡ m
-unfolding Stands
-line-end-unique s i o n m a b =
-    same-place s o i n m ((λ d. (a .inside d, a .fits d)), a .unfit) ((λ d. (b .inside d, b .fits d)), b .unfit)
-
-pub reader-at-unique : (text : RefT (List ℕ)) (i : ℕ) (r q : Reader) → (r .text ≡ text) × (r .at ≡ i) → (q .text ≡ text) × (q .at ≡ i) → r ≡ q
-reader-at-unique text i r q a b =
-    let same-text : r .text ≡ q .text = a .0 ∙ sym (b .0) in
-    let same-at : r .at ≡ q .at = a .1 ∙ sym (b .1) in
-    λ j. record { text = same-text j; at = same-at j }
-
-pub step-unique : (before : Reader) (key : List ℕ) (width : ℕ) (after other : Reader) → Stepped before key width after
-    → Stepped before key width other → after ≡ other
-step-unique before key width after other a b =
-    let same-text : after .text ≡ other .text = a .same ∙ sym (b .same) in
-    let same-at : after .at ≡ other .at =
-    line-end-unique (now (before .text)) (before .at) (line key width (drop (before .at) (now (before .text)))) (after .at) (other .at) (a .end-is) (b .end-is) in
-    λ i. record { text = same-text i; at = same-at i }

@@ -1,0 +1,28 @@
+-- What a refusal of a division or of a check says: each number stands for the first condition that holds.
+-- Assumes nothing.
+use mathlib.Core.Path.{_≡_}
+use mathlib.Core.Logic.{_⊎_, _≢_}
+use Prim.Native.Nat.{ℕ, _≤_, _<_}
+use mathlib.Core.List.{List}
+use lib.ListN.{length}
+use Rattle.lists.specs.Sums.{total}
+use Rattle.answer.specs.Numbers.{COUNT, ROOM, BIG, BASE}
+use Rattle.division.specs.Limits.{mostWeights, potLimit, weightLimit}
+
+-- "P above 10^11 or W above 10^13", then "P above zero and W zero"
+pub data SizeRefused (pot w n : ℕ) : Type 0 where
+  by-big : n ≡ BIG → (potLimit < pot) ⊎ (weightLimit < w) → SizeRefused pot w n
+  by-base : n ≡ BASE → pot ≤ potLimit → 0 < pot → w ≡ 0 → SizeRefused pot w n
+
+-- "The division alone looks at COUNT, ROOM, BIG, BASE"
+pub data DivideRefused (pot : ℕ) (weights : List ℕ) (room n : ℕ) : Type 0 where
+  by-count : n ≡ COUNT → mostWeights < length weights → DivideRefused pot weights room n
+  by-room : n ≡ ROOM → length weights ≤ mostWeights → room < length weights → DivideRefused pot weights room n
+  by-size : length weights ≤ mostWeights → length weights ≤ room → SizeRefused pot (total weights) n → DivideRefused pot weights room n
+
+-- ".. the check at COUNT, BIG, BASE"
+pub data CheckRefused (pot : ℕ) (weights amounts : List ℕ) (n : ℕ) : Type 0 where
+  by-many : n ≡ COUNT → mostWeights < length weights → CheckRefused pot weights amounts n
+  by-unlike : n ≡ COUNT → length weights ≢ length amounts → CheckRefused pot weights amounts n
+  by-sizes : length weights ≤ mostWeights → length weights ≡ length amounts → SizeRefused pot (total weights) n
+      → CheckRefused pot weights amounts n
