@@ -1,8 +1,9 @@
 /*
- * Noketualo: dividing a pot of cents by weights, and checking a division that someone else made.
+ * Noketualo: the statement of a month file, dividing a pot of cents by weights, and checking a
+ * division that someone else made.
  *
- * Every list is a run of bytes, eight to a number, low byte first; its length counts bytes, and it
- * may start at any address. Three things are the caller's duty:
+ * A text is a run of bytes. A list is one too, eight bytes to a number, low byte first. A length
+ * counts bytes, and either may start at any address. Three things are the caller's duty:
  *   - a pointer is never null, also where its length is 0: pass any other address there;
  *   - all bytes of a length are lent, and until the call returns nobody else writes to them, nor
  *     reads those of the output;
@@ -22,7 +23,8 @@ extern "C" {
 
 /*
  * The refusals of the whole engine under their numbers. The division gives COUNT, ROOM, BIG and
- * BASE, the check COUNT, BIG and BASE. Where several apply, the first in that order is given.
+ * BASE, the check COUNT, BIG and BASE. Where several apply, the first in that order is given. The
+ * statement call gives ROOM alone: what is wrong with a month stands in the statement's text.
  */
 enum noketualo_refusal_number {
     NOKETUALO_ACCEPTED = 0,
@@ -42,6 +44,12 @@ enum noketualo_refusal_number {
 #define NOKETUALO_MOST_WEIGHTS 64
 #define NOKETUALO_LARGEST_POT UINT64_C(100000000000)
 #define NOKETUALO_LARGEST_WEIGHT_SUM UINT64_C(10000000000000)
+
+/* A longer month file is refused as a whole: its statement is refuse=1,0,0. */
+#define NOKETUALO_MOST_FILE_BYTES 32768
+
+/* Room that is enough for every statement, which is proved. */
+#define NOKETUALO_STATEMENT_ROOM 10128
 
 /* How many bytes a list of that many numbers takes. */
 #define NOKETUALO_BYTES(numbers) ((size_t)(numbers) * 8u)
@@ -86,12 +94,30 @@ uint64_t noketualo_divide(uint64_t pot, const uint8_t *weights, size_t weights_l
 uint64_t noketualo_check(uint64_t pot, const uint8_t *weights, size_t weights_len,
                          const uint8_t *amounts, size_t amounts_len);
 
+/*
+ * Reads a month file, settles it, and writes its statement: a line charge=account,network,black
+ * start,reactive for each account, a line credit=owner,network,non-zone network,black
+ * start,reactive for each owner, and total=all charges,all credits; or, where the file or its month
+ * is refused, the one line refuse=number,table,row. Each line ends with a line feed, and no zero byte
+ * comes behind the last.
+ *
+ * Refuses:
+ *   ROOM   the output is too short for the statement; NOKETUALO_STATEMENT_ROOM bytes never are
+ *
+ * Accepted, its value is the statement's length, and no byte beyond it is written; refused, the
+ * value is 0 and no byte is written. The call takes about 46 KB of stack.
+ */
+uint64_t noketualo_statement(const uint8_t *text, size_t text_len, uint8_t *out, size_t out_len);
+
 /* The refusal's number, or NOKETUALO_ACCEPTED. */
 static inline unsigned noketualo_refusal(uint64_t answer) {
     return (unsigned)(answer & 0xffu);
 }
 
-/* What an accepted call has to say: the check 1 for yes and 0 for no, the division 0. */
+/*
+ * What an accepted call has to say: the statement its length, the check 1 for yes and 0 for no, the
+ * division 0.
+ */
 static inline uint64_t noketualo_value(uint64_t answer) {
     return answer >> 8;
 }

@@ -1,8 +1,9 @@
-//! Dividing a pot of cents by weights so that it comes out to the cent, and checking a division
-//! that someone else made.
+//! The statement of a month file, dividing a pot of cents by weights so that it comes out to the
+//! cent, and checking a division that someone else made.
 //!
 //! The work is done by Noketualo's proved core, which this crate links as a static library (built
-//! by `rt staticlib host`). The crate lends it memory and opens its answers; it divides nothing.
+//! by `rt staticlib host`). The crate lends it memory and opens its answers; it settles and divides
+//! nothing.
 //!
 //! ```
 //! use noketualo::{check, divide};
@@ -36,6 +37,12 @@ pub const LARGEST_POT: u64 = 100_000_000_000;
 
 /// The most that the weights may add up to.
 pub const LARGEST_WEIGHT_SUM: u64 = 10_000_000_000_000;
+
+/// The most bytes that a month file may have; the statement of a longer one is `refuse=1,0,0`.
+pub const MOST_FILE_BYTES: usize = 32_768;
+
+/// Room that is enough for every statement, which is proved.
+pub const STATEMENT_ROOM: usize = 10_128;
 
 /// Divides the pot, in cents, by the weights, and returns the shares in their order.
 ///
@@ -167,6 +174,45 @@ pub fn check_bytes(pot: u64, weights: &[u8], amounts: &[u8]) -> Result<bool, Ref
         )
     };
     open(answer).map(|value| value == 1)
+}
+
+/// The statement of a month file: the lines of its charges, its credits and both totals, or the one
+/// line `refuse=number,table,row` where the file or its month is refused.
+///
+/// ```
+/// let file = b"month=2\ndays=30\nnonzone=0\nend=0\n";
+/// assert_eq!(noketualo::statement(file), b"refuse=3,0,0\n");
+/// ```
+pub fn statement(text: &[u8]) -> Vec<u8> {
+    let mut out = vec![0; STATEMENT_ROOM];
+    let length = statement_into(text, &mut out)
+        .unwrap_or_else(|refusal| unreachable!("{STATEMENT_ROOM} bytes are enough: {refusal}"));
+    out.truncate(length);
+    out
+}
+
+/// Writes the statement of a month file to the front of `out`, and returns its length.
+///
+/// The bytes beyond it stay as they were; refused, all do.
+///
+/// # Errors
+///
+/// [`Room`](Refusal::Room) where `out` is too short for the statement.
+///
+/// ```
+/// use noketualo::{statement_into, Refusal};
+///
+/// let mut out = [b'-'; 14];
+/// assert_eq!(statement_into(b"month=13\n", &mut out), Ok(14));
+/// assert_eq!(&out, b"refuse=10,0,9\n");
+/// assert_eq!(statement_into(b"month=13\n", &mut out[..13]), Err(Refusal::Room));
+/// ```
+pub fn statement_into(text: &[u8], out: &mut [u8]) -> Result<usize, Refusal> {
+    // SAFETY: a slice's pointer is never null, its whole length is lent, and an exclusive slice
+    // overlaps no other.
+    let answer =
+        unsafe { raw::noketualo_statement(text.as_ptr(), text.len(), out.as_mut_ptr(), out.len()) };
+    open(answer).map(|length| length as usize)
 }
 
 /// The value of an accepted call, or the refusal.

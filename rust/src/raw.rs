@@ -22,4 +22,13 @@ extern "C" {
         amounts: *const u8,
         amounts_len: usize,
     ) -> u64;
+
+    /// Writes a month file's statement; see [`statement_into`](crate::statement_into). Its value is
+    /// the statement's length.
+    pub fn noketualo_statement(
+        text: *const u8,
+        text_len: usize,
+        out: *mut u8,
+        out_len: usize,
+    ) -> u64;
 }

@@ -1,5 +1,5 @@
 #!/usr/bin/env bash
-# Fuzzes the archive's statement against the second settlement's, for 60 seconds or as many as its
+# Fuzzes the archive's three calls against the second settlement's, for 60 seconds or as many as its
 # word says: second/fuzz/run.sh 600
 # Needs clang with its fuzzer and address sanitizer: in Debian 12 the packages clang and
 # libclang-rt-14-dev. It installs nothing; all that it makes lies in target/fuzz.
@@ -48,6 +48,9 @@ if [[ -z "$(ls -A "$work/corpus")" ]]; then
         done
     done
     "$work/cargo/release/made" 1 edit 161 >"$work/corpus/case-s"
+    # 100 cents by 1, 2, 4, room for three, and 14, 29, 57 to check
+    printf '/\x18\x00\x18\x00\x18\x00d\0\0\0\0\0\0\0\x01\0\0\0\0\0\0\0\x02\0\0\0\0\0\0\0\x04\0\0\0\0\0\0\0\x0e\0\0\0\0\0\0\0\x1d\0\0\0\0\0\0\0\x39\0\0\0\0\0\0\0' \
+        >"$work/corpus/division"
 fi
 
 exec "$work/fuzzer" -dict=fuzz/month.dict -max_len=33000 -max_total_time="$seconds" \

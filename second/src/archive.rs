@@ -5,7 +5,7 @@ use crate::refusal::ROOM;
 extern "C" {
     /// Reads a month file, settles it and writes the statement to `out`. The answer's low byte is 0,
     /// or 2 (ROOM) where `out` is too short, with nothing written; above the low byte is the length
-    /// of the statement.
+    /// of the statement, 0 where refused.
     fn noketualo_statement(text: *const u8, text_len: usize, out: *mut u8, out_len: usize) -> u64;
 }
 
@@ -14,8 +14,8 @@ extern "C" {
 pub enum Answer {
     /// It wrote so many bytes.
     Written(usize),
-    /// The output is too short; the archive may say for how many bytes.
-    Room(usize),
+    /// The output is too short.
+    Room,
     /// No answer that a statement has.
     Strange(u64),
 }
@@ -29,7 +29,7 @@ pub fn statement_into(text: &[u8], out: &mut [u8]) -> Answer {
     let value = (answer >> 8) as usize;
     match answer & 0xff {
         0 => Answer::Written(value),
-        ROOM => Answer::Room(value),
+        ROOM if value == 0 => Answer::Room,
         _ => Answer::Strange(answer),
     }
 }

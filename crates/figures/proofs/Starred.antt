@@ -9,6 +9,7 @@ use Rattle.division.specs.Shares.{quotient, remainder, leftover, comesBefore, g
 use Rattle.division.specs.Check.{passes, verdict}
 use Rattle.month.specs.Quantities.{nearest, networkCharge}
 use Rattle.month.specs.Months.{through, twelfth}
+use Rattle.statement_text.proofs.Promises.{case-s}
 use Rattle.figures.specs.Starred.{Starred}
 
 pub starred : Starred
@@ -29,4 +30,5 @@ starred =
       C2 = refl;
       N1 = refl;
       M1 = refl;
+      S = case-s;
     }

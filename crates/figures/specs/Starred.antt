@@ -10,6 +10,8 @@ use Rattle.division.specs.Check.{verdict}
 use Rattle.division.specs.declared.Verdict.the-variants.{Yes, No}
 use Rattle.month.specs.Quantities.{networkCharge}
 use Rattle.month.specs.Months.{twelfth}
+use Rattle.text.specs.Bytes.{bytes}
+use Rattle.statement_text.specs.Statement.{statementOf}
 
 pub record Starred : Type 0 where
   -- 100 by 1, 1, 1 and by 1, 2, 4
@@ -33,3 +35,7 @@ pub record Starred : Type 0 where
   pub N1 : networkCharge 3_000 1_471_400 ≡ 1_209_370
   -- annual 100: months 1, 2, 3
   pub M1 : twelfth 1 100 ∷ twelfth 2 100 ∷ twelfth 3 100 ∷ [] ≡ 8 ∷ 8 ∷ 9 ∷ []
+  -- case S whole, bytes in and bytes out
+  pub S :
+      statementOf (bytes "month=4\ndays=30\nnonzone=0\nzone=1,365000\nowner=1,1,200\nowner=2,1,100\nunit=1,2,1,1,12000,0\naccount=1,70,1\naccount=2,71,0\nload=1,1,10\nload=1,2,10\nptp=2,480,0\nend=9\n")
+      ≡ bytes "charge=1,2000,500,0\ncharge=2,0,500,0\ncredit=1,1333,0,0,0\ncredit=2,667,0,1000,0\ntotal=3000,3000\n"

@@ -1,5 +1,6 @@
 pub mod Digits
 pub mod Calls
 pub mod Reading
+pub mod Stating
 pub mod Promises
 pub mod Unique

@@ -1,21 +1,23 @@
 -- What is promised of the phone app's calls, beyond their definitions. Nothing else stands here; the proofs are in `Digits`,
--- `Calls` and `Reading`.
+-- `Calls`, `Reading` and `Stating`.
 -- Assumes nothing.
 use mathlib.Core.Path.{_≡_, sym, subst}
 use mathlib.Core.Logic.{_⊎_, _≢_}
-use mathlib.Core.List.{List}
-use Prim.Native.Nat.{ℕ, _/_, _%_, _^_, _<_}
+use mathlib.Core.List.{List, _++_}
+use Prim.Native.Nat.{ℕ, _/_, _%_, _^_, _≤_, _<_}
 use lib.ListN.{length, take, drop}
 use Rattle.lists.specs.Sums.{at}
-use Rattle.answer.specs.Numbers.{COUNT}
+use Rattle.answer.specs.Numbers.{COUNT, ROOM}
 use Rattle.division.specs.Limits.{divideRefusal}
 use Rattle.division.specs.Shares.{shares}
 use Rattle.division.specs.Check.{verdict, numberOf, valueOf}
 use Rattle.host.specs.Words.{numbers, bytes}
-use Rattle.host.specs.Calls.{word, hostDivideRefusal, hostMemory, HostDivided, hostVerdict}
+use Rattle.statement_text.specs.Statement.{statementOf}
+use Rattle.host.specs.Calls.{word, hostDivideRefusal, hostMemory, HostDivided, hostVerdict, HostStated}
 use Rattle.host.proofs.Digits as digits
 use Rattle.host.proofs.Calls as calls
 use Rattle.host.proofs.Reading as reading
+use Rattle.host.proofs.Stating as stating
 
 -- numbers below 2^64 that are written as bytes and read again are the same numbers ..
 pub numbers-of-bytes : (ns : List ℕ) → ((i : ℕ) → i < length ns → at ns i < 2 ^ 64) → numbers (bytes ns) ≡ ns
@@ -72,3 +74,13 @@ pub check-in-parts : (pot : ℕ) (weights amounts : List ℕ) → length weights
     → (hostVerdict pot weights amounts % 256 ≡ numberOf (verdict pot (numbers weights) (numbers amounts)))
     × (hostVerdict pot weights amounts / 256 ≡ valueOf (verdict pot (numbers weights) (numbers amounts)))
 check-in-parts pot weights amounts e f = reading.said-in-parts pot weights amounts (record { these-whole = e; those-whole = f })
+
+-- in 10,128 bytes every statement finds room: it stands first, and its length is the answer's value
+pub statement-with-room : (text before after : List ℕ) (r : ℕ) → HostStated text before after r → 10128 ≤ length before
+    → (r ≡ word 0 (length (statementOf text))) × (after ≡ statementOf text ++ drop (length (statementOf text)) before)
+statement-with-room = stating.statement-with-room
+
+-- where the lent bytes are too few for it, the answer is ROOM and nothing is written
+pub statement-without-room : (text before after : List ℕ) (r : ℕ) → HostStated text before after r → length before < length (statementOf text)
+    → (r ≡ word ROOM 0) × (after ≡ before)
+statement-without-room = stating.statement-without-room

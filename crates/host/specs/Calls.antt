@@ -6,11 +6,15 @@ use mathlib.Core.Bool.{cond}
 use mathlib.Core.List.{List, _++_}
 use lib.Dec.{eqb}
 use lib.ListN.{length, drop}
-use Rattle.answer.specs.Numbers.{COUNT}
+use Rattle.answer.specs.Numbers.{COUNT, head}
 use Rattle.answer.specs.Turns.{look}
 use Rattle.division.specs.Limits.{divideRefusal}
 use Rattle.division.specs.Shares.{shares}
 use Rattle.division.specs.Check.{verdict, numberOf, valueOf}
+use Rattle.tables.specs.Judgement.{roomFor}
+use Rattle.text.specs.Places as places
+use Rattle.statement_text.specs.Statement.{statementOf}
+use Rattle.statement_text.specs.Calls.{fitting}
 use Rattle.host.specs.Words.{wordBytes, isUneven, numbers, bytes}
 
 -- one word for an answer: the refusal's number in the low byte, the value above it
@@ -38,3 +42,8 @@ unfoldable pub hostVerdict : ℕ → List ℕ → List ℕ → ℕ
 hostVerdict pot weights amounts =
     look (isUneven (length weights) (length amounts)) COUNT
     (word (numberOf (verdict pot (numbers weights) (numbers amounts))) (valueOf (verdict pot (numbers weights) (numbers amounts))))
+
+-- What `noketualo_statement` answers and leaves in the lent bytes: ROOM and nothing, or the statement and its length.
+pub record HostStated (text before after : List ℕ) (r : ℕ) : Type 0 where
+  pub answer : r ≡ word (roomFor head (length (statementOf text)) (length before) .number) (length (fitting (statementOf text) (length before)))
+  pub lent : after ≡ places.stored before 0 (fitting (statementOf text) (length before))

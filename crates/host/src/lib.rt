@@ -1,6 +1,6 @@
-// The phone app's calls: the division and the check on a pot and byte slices, eight bytes to a number, low byte first. The
-// answer is one word: the refusal's number in its low byte, 0 where accepted, and the call's value in the bits above. A
-// refusal writes no byte. The calls keep nothing between them.
+// The phone app's calls: the division and the check on a pot and byte slices, eight bytes to a number, low byte first, and the
+// statement of a month file. The answer is one word: the refusal's number in its low byte, 0 where accepted, and the call's value
+// in the bits above. A refusal writes no byte. The calls keep nothing between them.
 use answer::ACCEPTED;
 use answer::COUNT;
 use division::Verdict;
@@ -9,13 +9,16 @@ ghost use Prim.Native.Nat.{_/_, _≤_};
 ghost use lib.ListN.{length};
 ghost use Rattle.division.specs.Limits.{mostWeights};
 ghost use Rattle.host.specs.Words.{wordBytes};
-ghost use Rattle.host.specs.Calls.{HostDivided, hostVerdict};
+ghost use Rattle.host.specs.Calls.{HostDivided, hostVerdict, HostStated};
 ghost use Rattle.host.specs.Stores.{WholeWords};
 
 mod words;
 
-// The check's value, 1 for yes, where it stands in an answer.
-const YES: u64 = 256;
+// What a value is taken times where it stands in an answer.
+const ABOVE: u64 = 256;
+
+// The check's value, 1 for yes.
+const YES: u64 = ABOVE;
 
 const NO: u64 = 0;
 
@@ -102,4 +105,16 @@ pub extern "C" fn noketualo_check(pot: u64, weights: &[u8], amounts: &[u8]) -> u
     let mut numbers = [0u64; 64];
     let mut handed = [0u64; 64];
     check_words(pot, weights, amounts, &mut numbers, &mut handed)
+}
+
+// Writes the statement of a month file to the front of `out`, and answers its length in the bits above the low byte. Refuses with
+// ROOM where `out` is too short for the statement; a file that is refused has a statement of its own.
+#[no_mangle]
+pub extern "C" fn noketualo_statement(text: &[u8], out: &mut [u8]) -> u64
+    ensures { λ r. ⌜ HostStated (now (text .entry)) (now (out .entry)) (now (out .exit)) r ⌝ }
+{
+    let shown = statement_text::statement(text, out);
+    let answer = shown.answer;
+    let length = shown.length as u64;
+    answer.number + ABOVE * length
 }

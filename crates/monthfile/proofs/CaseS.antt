@@ -3,7 +3,7 @@
 use mathlib.Core.Path.{_≡_, refl}
 use mathlib.Core.List.{List, [], _∷_, _++_}
 use Prim.Native.Nat.{ℕ}
-use Rattle.answer.specs.Numbers.{TEXT, COUNT}
+use Rattle.answer.specs.Numbers.{TEXT}
 use Rattle.answer.specs.Turns.{refuse}
 use Rattle.text.specs.Bytes.{bytes}
 use Rattle.text.specs.Numbers.{isDigit, digitsOn, number, digits, decimal}
@@ -53,3 +53,7 @@ bent-zero = refl
 pub bent-behind : reading monthForm (caseText ++ bytes "\n") ≡ refused (refuse TEXT 0 161)
 unfolding isDigit digitsOn number past field fields line rows heads tables rowsIn ending reading refuse
 bent-behind = refl
+
+pub bent-number : reading monthForm (bytes "month=4\ndays=30\nnonzone=0\nend=1\n") ≡ refused (refuse TEXT 0 26)
+unfolding isDigit digitsOn number past field fields line rows heads tables rowsIn ending reading refuse
+bent-number = refl

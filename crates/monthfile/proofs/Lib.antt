@@ -8,5 +8,7 @@ pub mod Filling
 pub mod Rooms
 pub mod Pieces
 pub mod Contents
+pub mod Refusals
+pub mod Answers
 pub mod Promises
 pub mod Unique

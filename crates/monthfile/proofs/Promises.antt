@@ -1,15 +1,26 @@
--- What is promised of every month file: what is written and read again is the same, and so is what is read and written again.
--- Nothing else stands here; the proofs cite `Forms` and `Contents`.
+-- What is promised of every month file: what is written and read again is the same, and so is what is read and written again. Then what
+-- is promised of the calls `read` and `write`, whose contracts are `Reads` and `Writes`. No range is judged: numbers are below 2^64 and
+-- nothing more is asked of them. Nothing else stands here; the proofs are in `Contents` and `Answers`.
 -- Assumes nothing.
-use mathlib.Core.Path.{_≡_, sym, ap, _∙_}
-use mathlib.Core.Logic.{_↔_}
-use mathlib.Core.List.{List, []}
-use Prim.Native.Nat.{ℕ}
-use lib.ListN.{length}
-use Rattle.monthfile.specs.Form.{Form, monthForm}
-use Rattle.monthfile.specs.Reading.{Contents, got, reading}
+use mathlib.Core.Path.{_≡_}
+use mathlib.Core.Logic.{_↔_, _≢_}
+use mathlib.Core.List.{List, [], _∷_}
+use Prim.Native.Nat.{ℕ, _≤_}
+use lib.ListN.{length, take}
+use Rattle.answer.specs.Turns.{accepted}
+use Rattle.tables.specs.declared.Table.{Table}
+use Rattle.tables.specs.Shape.{Tables, wordsOf}
+use Rattle.tables.specs.Good.{Counted}
+use Rattle.text.specs.Numbers.{Below}
+use Rattle.monthfile.specs.declared.Reading.{Reading}
+use Rattle.monthfile.specs.declared.Written.{Written}
+use Rattle.monthfile.specs.Form.{monthForm}
+use Rattle.monthfile.specs.Reading.{Contents, got, refused, reading}
 use Rattle.monthfile.specs.Writing.{fileText, Within}
+use Rattle.monthfile.specs.Calls.{nth, placeOf, readAnswer, atFront, Reads, contentsOf, Writes}
+use Rattle.monthfile.specs.Refused.{Full, ReadRefused, WriteRefused}
 use Rattle.monthfile.proofs.Contents as contents
+use Rattle.monthfile.proofs.Answers as answers
 
 -- tables that are written and read again are the same tables, for every shape within the limits
 pub written-then-read : (c : Contents) → Within monthForm c → reading monthForm (fileText monthForm c) ≡ got c []
@@ -32,3 +43,38 @@ accepted-length = contents.accepted-length
 pub accepted-texts : (text : List ℕ)
     → ((c : Contents) × (reading monthForm text ≡ got c [])) ↔ ((c : Contents) × (Within monthForm c) × (text ≡ fileText monthForm c))
 accepted-texts = contents.accepted-texts
+
+module _ (text : List ℕ) (lent after : Tables) (r : Reading) (reads : Reads text lent after r) where
+  -- a refused read answers zeros for the head and the rows, changes no lent word, and says why: ROOM, TEXT or COUNT
+  pub refused-read : r .answer .number ≢ 0 → (r ≡ readAnswer (refused (r .answer))) × (after ≡ lent) × ReadRefused text lent (r .answer)
+  refused-read = answers.read-refused text lent after r reads
+
+  -- an accepted read answers what the text holds, and has each table's rows at its front and behind them what was lent
+  pub accepted-read : r .answer .number ≡ 0
+      → (c : Contents) × (reading monthForm text ≡ got c []) × (r ≡ readAnswer (got c []))
+      × ((table : Table) → wordsOf after table ≡ atFront (nth (c .tables) (placeOf table) .words) (wordsOf lent table))
+  accepted-read = answers.read-accepted text lent after r reads
+
+  -- the text of tables within the limits is never refused where the tables are lent at full size
+  pub good-read : ((table : Table) → Full lent table) → (c : Contents) → Within monthForm c → text ≡ fileText monthForm c → r ≡ readAnswer (got c [])
+  good-read = answers.good-read text lent after r reads
+
+module _ (c : Contents) (t : Tables) (lent after : List ℕ) (r : Written) (writes : Writes c t lent after r) where
+  -- a refused write answers 0 as the length, changes no lent byte, and says why: COUNT or ROOM
+  pub refused-write : r .answer .number ≢ 0 → (r .length ≡ 0) × (after ≡ lent) × WriteRefused c t (length lent) (r .answer)
+  refused-write = answers.write-refused c t lent after r writes
+
+  -- an accepted write answers the text's length, and has the text at the front and behind it what was lent
+  pub accepted-write : r .answer .number ≡ 0 → (r .length ≡ length (fileText monthForm c)) × (after ≡ atFront (fileText monthForm c) lent)
+  accepted-write = answers.write-accepted c t lent after r writes
+
+  -- tables of whole rows within their limits are never refused where there is room for their text
+  pub good-write : ((table : Table) → Counted t table) → length (fileText monthForm c) ≤ length lent → r .answer ≡ accepted
+  good-write = answers.good-write c t lent after r writes
+
+-- what `write` wrote, `read` accepts, with the same head and the same rows
+pub write-then-read : (month days nonzone : ℕ) (t : Tables) → Below (month ∷ days ∷ nonzone ∷ []) → ((table : Table) → Below (wordsOf t table))
+    → (out after : List ℕ) (w : Written) → Writes (contentsOf month days nonzone t) t out after w → w .answer .number ≡ 0
+    → (lent filledIn : Tables) (r : Reading) → Reads (take (w .length) after) lent filledIn r → ((table : Table) → Full lent table)
+    → (r ≡ readAnswer (got (contentsOf month days nonzone t) [])) × ((table : Table) → wordsOf filledIn table ≡ atFront (wordsOf t table) (wordsOf lent table))
+write-then-read = answers.write-then-read

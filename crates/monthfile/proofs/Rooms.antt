@@ -66,7 +66,7 @@ in-turn-fine f e =
     by a b c d g h Loads = g
     by a b c d g h Reservations = h
 
-nothing-filled : (lent : Tables) → lent ≡ filled lent []
+pub nothing-filled : (lent : Tables) → lent ≡ filled lent []
 nothing-filled lent =
     λ i.
     record {

@@ -2,10 +2,10 @@
 -- Assumes nothing.
 use mathlib.Core.Path.{_≡_}
 use mathlib.Core.Bool.{cond}
-use mathlib.Core.List.{List, [], _∷_}
+use mathlib.Core.List.{List, [], _∷_, _++_}
 use Prim.Native.Nat.{ℕ, _*_, _/_}
 use lib.Dec.{eqb}
-use lib.ListN.{length, getD}
+use lib.ListN.{length, getD, drop}
 use Rattle.lists.specs.Sums.{at}
 use Rattle.answer.specs.declared.Answer.{Answer}
 use Rattle.answer.specs.Numbers as answers
@@ -94,6 +94,10 @@ filled lent ts =
       reservations = stored (lent .reservations) 0 (nth ts 5 .words);
     }
 
+-- entries at the front of a lent list, and behind them what was lent
+abbrev pub atFront : List ℕ → List ℕ → List ℕ
+atFront entries lent = entries ++ drop (length entries) lent
+
 -- the contract of `read`
 pub record Reads (text : List ℕ) (lent after : Tables) (r : Reading) : Type 0 where
   pub answers : r ≡ readAnswer (readOutcome text lent)
@@ -115,11 +119,11 @@ unfoldable pub writeRefusal : Contents → Tables → ℕ → Answer
 writeRefusal c t room =
     inTurn (λ table. counted table (length (wordsOf t table))) then roomFor answers.head (length (fileText monthForm c)) room
 
--- ".. and answers the length, 0 where refused": the text where it is accepted, else nothing
+-- what is written, of which it "answers the length, 0 where refused": the text where it is accepted, else nothing
 unfoldable pub textWritten : Contents → Tables → ℕ → List ℕ
 textWritten c t room = cond (eqb (writeRefusal c t room .number) 0) (fileText monthForm c) []
 
--- the contract of `write`
+-- the contract of `write`: t are the lent tables, c the head and their rows
 pub record Writes (c : Contents) (t : Tables) (lent after : List ℕ) (r : Written) : Type 0 where
   pub answers : r .answer ≡ writeRefusal c t (length lent)
   pub length-is : r .length ≡ length (textWritten c t (length lent))

@@ -2,4 +2,5 @@ pub mod Form
 pub mod Reading
 pub mod Writing
 pub mod Calls
+pub mod Refused
 pub mod Walks

@@ -19,6 +19,7 @@ pub data Outcome (A : Type 0) : Type 0 where
   got : A → List ℕ → Outcome A
   refused : Answer → Outcome A
 
+-- what is read behind a value, unless it was refused
 abbrev pub onward : {A B : Type 0} → Outcome A → (A → List ℕ → Outcome B) → Outcome B
 onward (got a s) go = go a s
 onward (refused r) go = refused r
@@ -39,7 +40,7 @@ pub record RowsRead : Type 0 where
   pub words : List ℕ
   pub rest : List ℕ
 
--- what comes of a row that is there or not, with the rows behind it
+-- what comes of a row that is there or not, with the rows behind it; s is the text that it was looked for in
 abbrev pub rowsFrom : Found (List ℕ) → List ℕ → (List ℕ → RowsRead) → RowsRead
 rowsFrom missing s more = record { count = 0; words = []; rest = s }
 rowsFrom (found ns t) s more =
@@ -60,7 +61,8 @@ unfoldable pub heads : ℕ → List (List ℕ) → List ℕ → Outcome (List �
 heads size [] s = got [] s
 heads size (key ∷ keys) s = headFrom size s (line key 1 s) (heads size keys)
 
--- the kinds of rows in turn: "COUNT (row is the limit)" where a row more than the limit can be read
+-- the kinds of rows in turn, "TEXT before COUNT (row is the limit)": COUNT where a row more than the limit stands there with a line
+-- that fits. A line that fits no kind whose turn is to come is left to `ending`, and is TEXT there
 abbrev pub tableFrom : Kind → RowsRead → (List ℕ → Outcome (List Rows)) → Outcome (List Rows)
 tableFrom kind r more =
     let go : Outcome (List Rows) = more (r .rest) in
@@ -96,7 +98,7 @@ endFrom size contents s (found ns t) =
 unfoldable pub ending : ℕ → List ℕ → Contents → List ℕ → Outcome Contents
 ending size key contents s = endFrom size contents s (line key 1 s)
 
--- "takes lines in turn, TEXT before COUNT"
+-- "takes lines in turn"
 unfoldable pub reading : Form → List ℕ → Outcome Contents
 reading form text =
     onward (heads (length text) (form .heads) text) (λ head s.

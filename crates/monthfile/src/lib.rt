@@ -1,7 +1,7 @@
 // The month file: `read` takes a file's bytes apart into a month's tables, `write` puts them together again. Both know the file's
 // form alone and judge no range. Reading walks the text twice: the first walk judges every line and counts the rows, the second
 // stores them, so that a refused file changes no lent word. `specs/Form.antt` has the form as a table of kinds, `Reading` what a
-// text holds or its first refusal, `Writing` the text of tables; `proofs/Promises.antt` that the two go back and forth.
+// text holds or its first refusal, `Writing` the text of tables, `Refused` why a call refuses; the promises are `proofs/Promises.antt`.
 ghost use Rattle.tables.specs.Shape.{tablesOf};
 ghost use Rattle.monthfile.specs.Calls.{contentsOf, Reads, Writes};
 use answer::Answer;
@@ -11,7 +11,7 @@ mod judge;
 mod keys;
 mod put;
 mod room;
-mod row;
+pub mod row;
 
 // What `read` answers: the refusal or acceptance, the head's three numbers, and each table's number of rows.
 pub struct Reading {

@@ -15,7 +15,7 @@ pub struct Counted {
 }
 
 // Counts the rows from `at` on, `most` at the most.
-pub fn count_rows(text: &[u8], at: usize, key: &[u8], width: usize, most: usize) -> Counted
+pub(crate) fn count_rows(text: &[u8], at: usize, key: &[u8], width: usize, most: usize) -> Counted
     requires { ⌜ at ≤ length (now text) ⌝ }
     ensures { λ r. ⌜ CountedAt (now (text .entry)) (rows (now (key .entry)) width most (drop at (now (text .entry)))) r ⌝ }
 {
@@ -35,7 +35,7 @@ pub fn count_rows(text: &[u8], at: usize, key: &[u8], width: usize, most: usize)
 }
 
 // Stores so many rows, which are known to be there, and answers the offset behind them.
-pub fn take_rows(
+pub(crate) fn take_rows(
     text: &[u8],
     at: usize,
     key: &[u8],

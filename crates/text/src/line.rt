@@ -162,7 +162,7 @@ fn fields_size(words: &[u64], from: usize, width: usize, before: usize, cap: usi
     size
 }
 
-// Adds the bytes of a line with a key of so many bytes and the fields from `from` on to a size, up to the cap.
+// Adds the bytes of a line with a key and so many fields from `from` on to a size, up to the cap.
 pub fn line_size(
     key: &[u8],
     words: &[u64],

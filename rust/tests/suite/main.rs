@@ -1,4 +1,4 @@
-//! Holds the archive to the rules: to the papers' figures, and to a second division and check that
+//! Holds the archive to the rules: to the papers' figures and the examples, and to a second division and check that
 //! were written from the rules alone.
 
 mod amounts;
@@ -13,3 +13,5 @@ mod numbers;
 mod plain;
 mod programs;
 mod refusals;
+mod stack;
+mod statement;

@@ -1,6 +1,8 @@
 //! The programs that show the archive in use, and the header that they are written from.
 
-use noketualo::{Refusal, LARGEST_POT, LARGEST_WEIGHT_SUM, MOST_WEIGHTS};
+use noketualo::{
+    Refusal, LARGEST_POT, LARGEST_WEIGHT_SUM, MOST_FILE_BYTES, MOST_WEIGHTS, STATEMENT_ROOM,
+};
 use std::env;
 use std::ffi::OsString;
 use std::fs;
@@ -31,6 +33,21 @@ fn the_c_example_divides_and_checks_d1() {
 }
 
 #[test]
+fn the_c_example_prints_a_statement() {
+    let program = built(
+        "c_statement",
+        &c_compiler(),
+        &C_WORDS,
+        &root().join("examples/c/statement.c"),
+    )
+    .expect("a C compiler");
+    let months = root().join("examples/months");
+    let file = fs::File::open(months.join("case-s.month")).expect("case S");
+    let expected = fs::read_to_string(months.join("case-s.statement")).expect("its statement");
+    assert_eq!(printed(Command::new(program).stdin(file)), expected);
+}
+
+#[test]
 fn the_header_serves_cplusplus() {
     let compiler = env::var_os("CXX").unwrap_or_else(|| "c++".into());
     let source = root().join("examples/c/divide.c");
@@ -50,6 +67,8 @@ fn the_header_names_the_crates_numbers() {
         "MOST_WEIGHTS",
         "LARGEST_POT",
         "LARGEST_WEIGHT_SUM",
+        "MOST_FILE_BYTES",
+        "STATEMENT_ROOM",
     ];
     let lines: String = Refusal::ALL
         .iter()
@@ -73,7 +92,8 @@ fn the_header_names_the_crates_numbers() {
         .collect();
     let others = format!(
         "ACCEPTED 0\nANSWER_YES 256\nANSWER_NO 0\nMOST_WEIGHTS {MOST_WEIGHTS}\n\
-         LARGEST_POT {LARGEST_POT}\nLARGEST_WEIGHT_SUM {LARGEST_WEIGHT_SUM}\n"
+         LARGEST_POT {LARGEST_POT}\nLARGEST_WEIGHT_SUM {LARGEST_WEIGHT_SUM}\n\
+         MOST_FILE_BYTES {MOST_FILE_BYTES}\nSTATEMENT_ROOM {STATEMENT_ROOM}\n"
     );
     assert_eq!(printed(&mut Command::new(program)), refusals + &others);
 }

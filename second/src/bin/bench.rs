@@ -46,6 +46,21 @@ fn main() {
     print_growth("accounts without loads", &idle, |size| size.accounts);
     let zones = [1, 2, 4, 8, 16].map(|zones| Size { zones, ..FULL });
     print_growth("zones", &zones, |size| size.zones);
+    print_reading();
+}
+
+/// A month 13 is refused as soon as the file is read, so that hardly more than reading is timed.
+fn print_reading() {
+    let mut made = month(&FULL);
+    made.head.month = 13;
+    let text = made.text();
+    let (archive, second) = microseconds(&text);
+    println!();
+    println!(
+        "reading alone, {} bytes: archive {archive:.1}, second {second:.1}, ratio {:.2}",
+        text.len(),
+        archive / second
+    );
 }
 
 fn print_growth(what: &str, sizes: &[Size], count: impl Fn(&Size) -> u64) {
@@ -57,6 +72,7 @@ fn print_growth(what: &str, sizes: &[Size], count: impl Fn(&Size) -> u64) {
     let mut above: Option<(f64, f64)> = None;
     for size in sizes {
         let text = month(size).text();
+        assert!(!statement(&text).starts_with(b"refuse"));
         let (archive, second) = microseconds(&text);
         print!(
             "{:>24} {:>6} | {archive:>9.1} {second:>9.1} {:>7.2} |",
@@ -164,5 +180,5 @@ fn hold_equal(text: &[u8]) {
     let mut out = vec![0; 10_000];
     let answer = statement_into(text, &mut out);
     assert_eq!(answer, Answer::Written(expected.len()));
-    assert!(out.starts_with(&expected) && !expected.starts_with(b"refuse"));
+    assert!(out.starts_with(&expected));
 }

@@ -136,8 +136,7 @@ fn compare_one(text: &[u8], expected: &[u8], index: u64, out: &mut [u8]) -> Resu
         }
         return hold_untouched(&out[length..], "beyond an output with exactly enough room");
     }
-    // Refused, the archive may answer the length or not: the paper doesn't know this call.
-    if answer != Answer::Room(0) && answer != Answer::Room(length) {
+    if answer != Answer::Room {
         return Err(format!("{answer:?} with room for {room} bytes"));
     }
     hold_untouched(out, "where it refused for want of room")

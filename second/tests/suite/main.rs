@@ -3,6 +3,7 @@
 
 mod balance;
 mod division;
+mod examples;
 mod figures;
 mod files;
 mod makers;

@@ -1,0 +1,78 @@
+-- The statement's call: its length is small enough to stand above a number, and what it leaves where there is room.
+-- Assumes nothing.
+use mathlib.Core.Path.{_≡_, refl, sym, ap, ap₂, _∙_}
+use mathlib.Core.Logic.{⊎-elim}
+use mathlib.Core.List.{List, [], _++_}
+use Prim.Native.Nat.{ℕ, _+_, _*_, _≤_, _<_}
+use native.Mathlib.Nat.{le-trans, le-of-eq, zero-add}
+use native.Mathlib.Omega.{arith}
+use lib.ListN.{length, drop}
+use borrow.Author.Tests.{lt-ltb, le-ltb}
+use Rattle.lists.proofs.Ranks.{lt-or-le}
+use Rattle.answer.specs.declared.Answer.{Answer}
+use Rattle.answer.specs.Numbers.{ROOM, head}
+use Rattle.answer.specs.Turns.{refuse}
+use Rattle.answer.proofs.Turns.{refuse-none, refuse-number}
+use Rattle.tables.specs.Judgement.{roomFor}
+use Rattle.text.specs.Places.{stored}
+use Rattle.text.proofs.Stores.{stored-is, stored-none}
+use Rattle.monthfile.proofs.Rooms.{room-short, room-enough}
+use Rattle.statement_text.specs.declared.Shown.{Shown}
+use Rattle.statement_text.specs.Statement.{statementOf}
+use Rattle.statement_text.specs.Calls.{fitting, Shows}
+use Rattle.statement_text.proofs.Showing.{fitting-short}
+use Rattle.statement_text.proofs.Promises.{statement-is-short}
+use Rattle.host.specs.Calls.{word, HostStated}
+
+module _ (text before after : List ℕ) (s : Shown) (shows : Shows (statementOf text) before after s) where
+  pub length-small : s .length ≤ 10128
+  length-small =
+      le-trans (le-of-eq (shows .length-is)) (le-trans (fitting-short (statementOf text) (length before)) (statement-is-short text))
+
+  -- ROOM is 2, acceptance 0
+  pub number-small : s .answer .number ≤ 2
+  number-small =
+      ⊎-elim
+      (λ (h : length before < length (statementOf text)).
+      let e : s .answer .number ≡ 2 =
+      ap (λ (a : Answer). a .number) (shows .answers ∙ sym (room-short head (length (statementOf text)) (length before) h)) ∙ refuse-number ROOM head 0 in
+      omega arith)
+      (λ (h : length (statementOf text) ≤ length before).
+      let e : s .answer .number ≡ 0 =
+      ap (λ (a : Answer). a .number) (shows .answers ∙ sym (room-enough head (length (statementOf text)) (length before) h)) ∙ refuse-number 0 head 0 in
+      omega arith)
+      (lt-or-le (length before) (length (statementOf text)))
+
+  pub stated : (r : ℕ) → r ≡ word (s .answer .number) (s .length) → HostStated text before after r
+  stated r e =
+      record {
+        answer = e ∙ ap₂ word (ap (λ (a : Answer). a .number) (shows .answers)) (shows .length-is);
+        lent = shows .stores;
+      }
+
+-- where there is no room, ROOM is all, and nothing is written
+pub statement-without-room : (text before after : List ℕ) (r : ℕ) → HostStated text before after r → length before < length (statementOf text)
+    → (r ≡ word ROOM 0) × (after ≡ before)
+unfolding fitting
+statement-without-room text before after r h short =
+    let none : fitting (statementOf text) (length before) ≡ [] = rw (lt-ltb (length before) (length (statementOf text)) short) in (
+      h .answer
+          ∙ ap₂ word
+          (ap (λ (a : Answer). a .number) (sym (room-short head (length (statementOf text)) (length before) short)) ∙ refuse-number ROOM head 0)
+          (ap length none),
+      h .lent ∙ ap (stored before 0) none ∙ stored-none before 0,
+    )
+
+-- room for 10,128 bytes is enough
+pub statement-with-room : (text before after : List ℕ) (r : ℕ) → HostStated text before after r → 10128 ≤ length before
+    → (r ≡ word 0 (length (statementOf text))) × (after ≡ statementOf text ++ drop (length (statementOf text)) before)
+unfolding fitting
+statement-with-room text before after r h room =
+    let enough : length (statementOf text) ≤ length before = le-trans (statement-is-short text) room in
+    let all : fitting (statementOf text) (length before) ≡ statementOf text = rw (le-ltb (length before) (length (statementOf text)) enough) in (
+      h .answer
+          ∙ ap₂ (λ (a : Answer) l. word (a .number) (length l))
+          (sym (room-enough head (length (statementOf text)) (length before) enough) ∙ refuse-none 0 head 0 refl) all,
+      h .lent ∙ ap (stored before 0) all ∙ stored-is before 0 (statementOf text) (omega arith)
+          ∙ ap (λ n. statementOf text ++ drop n before) (zero-add (length (statementOf text))),
+    )

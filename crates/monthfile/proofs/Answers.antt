@@ -1,0 +1,289 @@
+-- What the contracts of `read` and `write` give: what an accepted call answers and stores, that a refused one changes nothing, and
+-- which refusals there are.
+-- Assumes nothing.
+use mathlib.Core.Path.{_≡_, refl, sym, ap, subst, _∙_}
+use mathlib.Core.Logic.{⊎-elim, _≢_}
+use mathlib.Core.List.{List, [], _∷_, _++_}
+use Prim.Native.Nat.{ℕ, _+_, _*_, _/_, _%_, _≤_, _<_}
+use native.Mathlib.Nat.{div-add-mod, le-trans, le-of-eq, mul-le-mul-right}
+use native.Mathlib.Omega.{arith}
+use lib.ListN.{length, take, drop}
+use lib.Seq.{take-append-seam}
+use borrow.Author.Tests.{eq-eqb, ne-eqb}
+use Rattle.answer.specs.declared.Answer.{Answer}
+use Rattle.answer.specs.Numbers.{COUNT, ROOM, TEXT, head}
+use Rattle.answer.specs.Turns.{accepted}
+use Rattle.tables.specs.declared.Table.{Table}
+use Rattle.tables.specs.declared.Table.the-variants.{Zones, Owners, Units, Accounts, Loads, Reservations}
+use Rattle.tables.specs.Shape.{number, width, limit, rows, Tables, wordsOf}
+use Rattle.tables.specs.Good.{Counted}
+use Rattle.tables.specs.Refused.{refusal}
+use Rattle.tables.specs.Judgement.{counted, roomFor}
+use Rattle.tables.proofs.Tests.{reworded, both, equal, at-least}
+use Rattle.tables.proofs.Stages.{Stage, passed, stopped, passed-on, then-stage, look-stage, in-turn-stage}
+use Rattle.text.specs.Numbers.{Below}
+use Rattle.text.specs.Places.{stored}
+use Rattle.text.proofs.Stores.{stored-none, stored-is}
+use Rattle.monthfile.specs.declared.Reading.{Reading}
+use Rattle.monthfile.specs.declared.Written.{Written}
+use Rattle.monthfile.specs.Form.{monthForm, kindOf}
+use Rattle.monthfile.specs.Reading.{Outcome, got, refused, Rows, Contents, reading}
+use Rattle.monthfile.specs.Writing.{fileText, Fits, AllFit, Within}
+use Rattle.monthfile.specs.Calls.{contentsOf, rowsOf, allRows, nth, placeOf, fullSize, readRoom, readOutcome, readAnswer, tablesIn, filled, atFront, Reads, writeRefusal, textWritten, Writes}
+use Rattle.monthfile.specs.Refused.{Full, ReadRefused, by-room, by-text, by-count, WriteRefused, by-bad-table, by-short-room}
+use Rattle.monthfile.proofs.Forms.{FileBack, file-back}
+use Rattle.monthfile.proofs.Contents.{written-then-read}
+use Rattle.monthfile.proofs.Rooms.{nothing-filled}
+use Rattle.monthfile.proofs.Refusals.{Stops, Unread, AtText, OverLimit, reading-stops, table-over}
+
+-- entries stored at the front of a lent list
+stored-front : (lent entries : List ℕ) → length entries ≤ length lent → stored lent 0 entries ≡ atFront entries lent
+stored-front lent entries h =
+    let fits : 0 + length entries ≤ length lent = omega arith in
+    let size : 0 + length entries ≡ length entries = omega arith in
+    stored-is lent 0 entries fits ∙ ap (λ k. entries ++ drop k lent) size
+
+-- the words of one of the filled tables
+words-filled : (lent : Tables) (ts : List Rows) (table : Table) → wordsOf (filled lent ts) table ≡ stored (wordsOf lent table) 0 (nth ts (placeOf table) .words)
+words-filled lent ts Zones = refl
+words-filled lent ts Owners = refl
+words-filled lent ts Units = refl
+words-filled lent ts Accounts = refl
+words-filled lent ts Loads = refl
+words-filled lent ts Reservations = refl
+
+-- a table of contents within the limits
+table-fits : (ts : List Rows) → AllFit (monthForm .kinds) ts → (table : Table) → Fits (kindOf table) (nth ts (placeOf table))
+table-fits (a ∷ b ∷ c ∷ d ∷ e ∷ f ∷ []) h Zones = h .0
+table-fits (a ∷ b ∷ c ∷ d ∷ e ∷ f ∷ []) h Owners = h .1 .0
+table-fits (a ∷ b ∷ c ∷ d ∷ e ∷ f ∷ []) h Units = h .1 .1 .0
+table-fits (a ∷ b ∷ c ∷ d ∷ e ∷ f ∷ []) h Accounts = h .1 .1 .1 .0
+table-fits (a ∷ b ∷ c ∷ d ∷ e ∷ f ∷ []) h Loads = h .1 .1 .1 .1 .0
+table-fits (a ∷ b ∷ c ∷ d ∷ e ∷ f ∷ []) h Reservations = h .1 .1 .1 .1 .1 .0
+table-fits [] h table = absurd h
+table-fits (a ∷ []) h table = absurd (h .1)
+table-fits (a ∷ b ∷ []) h table = absurd (h .1 .1)
+table-fits (a ∷ b ∷ c ∷ []) h table = absurd (h .1 .1 .1)
+table-fits (a ∷ b ∷ c ∷ d ∷ []) h table = absurd (h .1 .1 .1 .1)
+table-fits (a ∷ b ∷ c ∷ d ∷ e ∷ []) h table = absurd (h .1 .1 .1 .1 .1)
+table-fits (a ∷ b ∷ c ∷ d ∷ e ∷ f ∷ g ∷ more) h table = absurd (h .1 .1 .1 .1 .1 .1)
+
+-- rows within the limits fit in a table of full size
+fits-front : (table : Table) (t : Rows) → Fits (kindOf table) t → {lent : ℕ} → limit table * width table ≤ lent → length (t .words) ≤ lent
+fits-front table t f full = le-trans (le-of-eq (f .whole)) (le-trans (mul-le-mul-right (width table) (f .few)) full)
+
+-- the look at ROOM, and the text behind it
+module _ (text : List ℕ) (lent : Tables) where
+  abbrev Short : Answer → Type 0
+  Short a =
+      (table : Table) × (a ≡ refusal ROOM (number table) 0) × ((earlier : Table) → number earlier < number table → Full lent earlier)
+      × ¬ Full lent table
+
+  abbrev RoomLooked : Type 0
+  RoomLooked = Stage ((table : Table) → Full lent table) Short (readRoom lent)
+
+  rooms : RoomLooked
+  unfolding readRoom roomFor
+  rooms =
+      in-turn-stage (Full lent) Short (λ table. fullSize table (length (wordsOf lent table)))
+      (λ table before.
+      look-stage ROOM (number table) 0 (omega arith) (at-least (limit table * width table) (length (wordsOf lent table)))
+      (λ short. (table, refl, before, short)))
+
+  outcome-short : readRoom lent .number ≢ 0 → readOutcome text lent ≡ refused (readRoom lent)
+  unfolding readOutcome
+  outcome-short d = rw (ne-eqb (readRoom lent .number) 0 d)
+
+  outcome-read : readRoom lent ≡ accepted → readOutcome text lent ≡ reading monthForm text
+  unfolding readOutcome
+  outcome-read e = rw (eq-eqb (readRoom lent .number) 0 (ap (λ (a : Answer). a .number) e))
+
+  -- an outcome that is refused says why, one that is not has lent tables of full size and the text read
+  abbrev Way : Outcome Contents → Type 0
+  Way (refused a) = ReadRefused text lent a
+  Way (got c rest) = (reading monthForm text ≡ got c rest) × ((table : Table) → Full lent table)
+
+  way-read : ((table : Table) → Full lent table) → (o : Outcome Contents) → reading monthForm text ≡ o → Stops (Unread monthForm text) o → Way o
+  way-read full (got c rest) e stops = (e, full)
+  way-read full (refused a) e stops =
+      ⊎-elim
+      (λ (at : AtText (length text) a). by-text (at .0) (at .1) (at .2) full)
+      (λ (over : OverLimit (monthForm .kinds) a). by-count (table-over a over .0) (table-over a over .1) full)
+      stops
+
+  way-of : RoomLooked → Way (readOutcome text lent)
+  way-of (passed e full) =
+      subst Way (sym (outcome-read e)) (way-read full (reading monthForm text) refl (reading-stops monthForm text))
+  way-of (stopped d why) = subst Way (sym (outcome-short d)) (by-room (why .0) (why .1) (why .2) (why .3))
+
+  way : Way (readOutcome text lent)
+  way = way-of rooms
+
+  refused-number : (a : Answer) → ReadRefused text lent a → a .number ≢ 0
+  refused-number a (by-room table e before short) z = let n : ROOM ≡ 0 = ap (λ (k : Answer). k .number) (sym e) ∙ z in omega arith
+  refused-number a (by-text offset e inside full) z = let n : TEXT ≡ 0 = ap (λ (k : Answer). k .number) (sym e) ∙ z in omega arith
+  refused-number a (by-count table e full) z = let n : COUNT ≡ 0 = ap (λ (k : Answer). k .number) (sym e) ∙ z in omega arith
+
+  module _ (after : Tables) (r : Reading) (reads : Reads text lent after r) where
+    -- a refused read answers zeros for the head and the rows, and changes no lent word
+    refused-by : (o : Outcome Contents) → Way o → r ≡ readAnswer o → after ≡ filled lent (tablesIn o) → r .answer .number ≢ 0
+        → (r ≡ readAnswer (refused (r .answer))) × (after ≡ lent) × ReadRefused text lent (r .answer)
+    refused-by (refused a) why e s d =
+        let same : a ≡ r .answer = sym (ap (λ (h : Reading). h .answer) e) in
+        (e ∙ ap (λ k. readAnswer (refused k)) same, s ∙ sym (nothing-filled lent), subst (ReadRefused text lent) same why)
+    refused-by (got c rest) w e s d = absurd (d (ap (λ (h : Reading). h .answer .number) e))
+
+    pub read-refused : r .answer .number ≢ 0 → (r ≡ readAnswer (refused (r .answer))) × (after ≡ lent) × ReadRefused text lent (r .answer)
+    read-refused d = refused-by (readOutcome text lent) way (reads .answers) (reads .stores) d
+
+    -- an accepted read has each table's rows at its front, and behind them what was lent
+    accepted-by : (o : Outcome Contents) → Way o → r ≡ readAnswer o → after ≡ filled lent (tablesIn o) → r .answer .number ≡ 0
+        → (c : Contents) × (reading monthForm text ≡ got c []) × (r ≡ readAnswer (got c []))
+        × ((table : Table) → wordsOf after table ≡ atFront (nth (c .tables) (placeOf table) .words) (wordsOf lent table))
+    accepted-by (refused a) w e s z = absurd (refused-number a w (ap (λ (h : Reading). h .answer .number) (sym e) ∙ z))
+    accepted-by (got c rest) w e s z =
+        let back : FileBack monthForm text c = file-back monthForm text c rest (w .0) in
+        let front : (table : Table) → length (nth (c .tables) (placeOf table) .words) ≤ length (wordsOf lent table) =
+        λ table. fits-front table (nth (c .tables) (placeOf table)) (table-fits (c .tables) (back .within .fit) table) (w .1 table) in (
+          c,
+          ap (reading monthForm) (back .written) ∙ written-then-read c (back .within),
+          e,
+          λ table. ap (λ k. wordsOf k table) s ∙ words-filled lent (c .tables) table
+              ∙ stored-front (wordsOf lent table) (nth (c .tables) (placeOf table) .words) (front table),
+        )
+
+    pub read-accepted : r .answer .number ≡ 0
+        → (c : Contents) × (reading monthForm text ≡ got c []) × (r ≡ readAnswer (got c []))
+        × ((table : Table) → wordsOf after table ≡ atFront (nth (c .tables) (placeOf table) .words) (wordsOf lent table))
+    read-accepted z = accepted-by (readOutcome text lent) way (reads .answers) (reads .stores) z
+
+    -- the text of contents within the limits, read into tables of full size, is accepted with these contents
+    pub good-read : ((table : Table) → Full lent table) → (c : Contents) → Within monthForm c → text ≡ fileText monthForm c → r ≡ readAnswer (got c [])
+    good-read full c within e =
+        reads .answers ∙ ap readAnswer (outcome-read (room-passed rooms) ∙ ap (reading monthForm) e ∙ written-then-read c within)
+      where
+        room-passed : RoomLooked → readRoom lent ≡ accepted
+        room-passed (passed q g) = q
+        room-passed (stopped d why) = absurd (why .3 (full (why .0)))
+
+-- the looks at COUNT and ROOM, and the text that is written
+module _ (c : Contents) (t : Tables) (lent : List ℕ) where
+  -- every table is whole rows within its limit and the text fits, or the refusal says why
+  abbrev WriteLooked : Type 0
+  WriteLooked =
+      Stage (((table : Table) → Counted t table) × (length (fileText monthForm c) ≤ length lent)) (WriteRefused c t (length lent))
+      (writeRefusal c t (length lent))
+
+  looks : WriteLooked
+  unfolding writeRefusal counted roomFor
+  looks =
+      then-stage
+      (in-turn-stage (Counted t) (WriteRefused c t (length lent)) (λ table. counted table (length (wordsOf t table)))
+      (λ table before.
+      look-stage COUNT (number table) 0 (omega arith)
+      (reworded (λ p. record { whole = p .0; few = p .1 }) (λ r. (r .whole, r .few))
+      (both (equal (length (wordsOf t table) % width table) 0) (at-least (rows table (wordsOf t table)) (limit table))))
+      (by-bad-table table refl before)))
+      (λ all.
+      passed-on (λ fits. (all, fits))
+      (look-stage ROOM head 0 (omega arith) (at-least (length (fileText monthForm c)) (length lent)) (λ short. by-short-room refl all (omega arith))))
+
+  text-none : writeRefusal c t (length lent) .number ≢ 0 → textWritten c t (length lent) ≡ []
+  unfolding textWritten
+  text-none d = rw (ne-eqb (writeRefusal c t (length lent) .number) 0 d)
+
+  text-whole : writeRefusal c t (length lent) ≡ accepted → textWritten c t (length lent) ≡ fileText monthForm c
+  unfolding textWritten
+  text-whole e = rw (eq-eqb (writeRefusal c t (length lent) .number) 0 (ap (λ (a : Answer). a .number) e))
+
+  module _ (after : List ℕ) (r : Written) (writes : Writes c t lent after r) where
+    refused-write : WriteLooked
+        → r .answer .number ≢ 0 → (r .length ≡ 0) × (after ≡ lent) × WriteRefused c t (length lent) (r .answer)
+    refused-write (passed e g) d = absurd (d (ap (λ (a : Answer). a .number) (writes .answers ∙ e)))
+    refused-write (stopped n why) d = (
+      writes .length-is ∙ ap length (text-none n),
+      writes .stores ∙ ap (stored lent 0) (text-none n) ∙ stored-none lent 0,
+      subst (WriteRefused c t (length lent)) (sym (writes .answers)) why,
+    )
+
+    -- a refused write answers 0 and changes no lent byte
+    pub write-refused : r .answer .number ≢ 0 → (r .length ≡ 0) × (after ≡ lent) × WriteRefused c t (length lent) (r .answer)
+    write-refused d = refused-write looks d
+
+    written-by : WriteLooked
+        → r .answer .number ≡ 0
+        → (r .length ≡ length (fileText monthForm c)) × (after ≡ atFront (fileText monthForm c) lent)
+    written-by (passed e g) z =
+        (writes .length-is ∙ ap length (text-whole e), writes .stores ∙ ap (stored lent 0) (text-whole e) ∙ stored-front lent (fileText monthForm c) (g .1))
+    written-by (stopped n why) z = absurd (n (ap (λ (a : Answer). a .number) (sym (writes .answers)) ∙ z))
+
+    -- an accepted write answers the text's length and has the text at the front, and behind it what was lent
+    pub write-accepted : r .answer .number ≡ 0
+        → (r .length ≡ length (fileText monthForm c)) × (after ≡ atFront (fileText monthForm c) lent)
+    write-accepted z = written-by looks z
+
+    -- tables of whole rows within their limits, in room for their text, are never refused
+    pub good-write : ((table : Table) → Counted t table) → length (fileText monthForm c) ≤ length lent → r .answer ≡ accepted
+    good-write all fits = writes .answers ∙ go looks
+      where
+        go : WriteLooked
+            → writeRefusal c t (length lent) ≡ accepted
+        go (passed e g) = e
+        go (stopped n (by-bad-table table e before bad)) = absurd (bad (all table))
+        go (stopped n (by-short-room e counts short)) = absurd (omega arith)
+
+-- what `write` wrote is read again: the same head, and in each table the same rows
+module _ (month days nonzone : ℕ) (t : Tables) (small : Below (month ∷ days ∷ nonzone ∷ [])) (below : (table : Table) → Below (wordsOf t table)) where
+  row-fits : ((table : Table) → Counted t table) → (table : Table) → Fits (kindOf table) (rowsOf table t)
+  row-fits all table =
+      record {
+        whole =
+            let split : width table * (length (wordsOf t table) / width table) + length (wordsOf t table) % width table ≡ length (wordsOf t table) =
+            div-add-mod (length (wordsOf t table)) (width table) in
+            omega (arith, all table .whole);
+        few = all table .few;
+        below = below table;
+      }
+
+  held-within : ((table : Table) → Counted t table) → Within monthForm (contentsOf month days nonzone t)
+  held-within all =
+      record {
+        one-each = refl;
+        small = small;
+        fit = (row-fits all Zones, (row-fits all Owners, (row-fits all Units, (row-fits all Accounts, (row-fits all Loads, (row-fits all Reservations, tt))))));
+      }
+
+  held-words : (table : Table) → nth (allRows t) (placeOf table) .words ≡ wordsOf t table
+  held-words Zones = refl
+  held-words Owners = refl
+  held-words Units = refl
+  held-words Accounts = refl
+  held-words Loads = refl
+  held-words Reservations = refl
+
+  module _ (out after : List ℕ) (w : Written) (writes : Writes (contentsOf month days nonzone t) t out after w) (z : w .answer .number ≡ 0) where
+    abbrev c : Contents
+    c = contentsOf month days nonzone t
+
+    whole-rows : WriteLooked c t out → (table : Table) → Counted t table
+    whole-rows (passed e g) = g .0
+    whole-rows (stopped n why) = absurd (n (ap (λ (a : Answer). a .number) (sym (writes .answers)) ∙ z))
+
+    text-again : take (w .length) after ≡ fileText monthForm c
+    text-again =
+        let wrote = write-accepted c t out after w writes z in
+        ap (λ k. take k after) (wrote .0) ∙ ap (take (length (fileText monthForm c))) (wrote .1)
+        ∙ take-append-seam (fileText monthForm c) (drop (length (fileText monthForm c)) out)
+
+    pub write-then-read : (lent filledIn : Tables) (r : Reading) → Reads (take (w .length) after) lent filledIn r → ((table : Table) → Full lent table)
+        → (r ≡ readAnswer (got c [])) × ((table : Table) → wordsOf filledIn table ≡ atFront (wordsOf t table) (wordsOf lent table))
+    write-then-read lent filledIn r reads full =
+        let within : Within monthForm c = held-within (whole-rows (looks c t out)) in
+        let answer : r ≡ readAnswer (got c []) = good-read (take (w .length) after) lent filledIn r reads full c within text-again in
+        let got-it = read-accepted (take (w .length) after) lent filledIn r reads (ap (λ (h : Reading). h .answer .number) answer) in
+        let both-read : got c [] ≡ got (got-it .0) [] = sym (ap (reading monthForm) text-again ∙ written-then-read c within) ∙ got-it .1 in
+        let same : c ≡ got-it .0 = cc in (
+          answer,
+          λ table. got-it .3 table ∙ ap (λ (k : Contents). atFront (nth (k .tables) (placeOf table) .words) (wordsOf lent table)) (sym same)
+              ∙ ap (λ k. atFront k (wordsOf lent table)) (held-words table),
+        )

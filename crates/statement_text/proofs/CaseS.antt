@@ -1,0 +1,39 @@
+-- Case S of the paper whole: the file's bytes, and the statement's, computed from the definitions.
+-- Assumes nothing.
+use mathlib.Core.Path.{_≡_, refl, ap, _∙_}
+use mathlib.Core.List.{List}
+use Prim.Native.Nat.{ℕ}
+use Rattle.lists.specs.Sums.{sumTo, largestFirst}
+use Rattle.lists.specs.Entries.{listed, put}
+use Rattle.answer.specs.Turns.{accepted, refuse, _then_, first}
+use Rattle.division.specs.Limits.{sizeRefusal}
+use Rattle.division.specs.Shares.{quotient, remainder, leftover, comesBefore, getsCent, share, shares}
+use Rattle.groups.specs.Turns.{turns}
+use Rattle.groups.specs.Groups as groups
+use Rattle.service.specs.Service as service
+use Rattle.service.specs.Turn as turn
+use Rattle.month.specs.Months.{isMonth, through, twelfth}
+use Rattle.month.specs.Quantities as month
+use Rattle.tables.specs.Search.{any}
+use Rattle.tables.specs.Rows as rows
+use Rattle.tables.specs.Judgement as judgement
+use Rattle.text.specs.Bytes.{bytes}
+use Rattle.text.specs.Numbers.{isDigit, digitsOn, number, digits, decimal}
+use Rattle.text.specs.Lines.{past, field, fields, line, fieldsText, lineText}
+use Rattle.monthfile.specs.Reading as reading
+use Rattle.monthfile.specs.Writing.{rowsText}
+use Rattle.settlement.specs.Accounts.{contributions, reserved, curtailed, accountUse}
+use Rattle.settlement.specs.Network as network
+use Rattle.settlement.specs.Services as services
+use Rattle.settlement.specs.Settled.{networkInTurn, divisionsInTurn, answerOf, chargeOf, creditOf, chargeWords, creditWords}
+use Rattle.statement_text.specs.Statement.{rowsWith, linesText, allCharges, allCredits, statementLines, settledAnswer, refuseLine, settledText, statementOf}
+
+abbrev pub caseFile : List ℕ
+caseFile = bytes "month=4\ndays=30\nnonzone=0\nzone=1,365000\nowner=1,1,200\nowner=2,1,100\nunit=1,2,1,1,12000,0\naccount=1,70,1\naccount=2,71,0\nload=1,1,10\nload=1,2,10\nptp=2,480,0\nend=9\n"
+
+abbrev pub caseStatement : List ℕ
+caseStatement = bytes "charge=1,2000,500,0\ncharge=2,0,500,0\ncredit=1,1333,0,0,0\ncredit=2,667,0,1000,0\ntotal=3000,3000\n"
+
+pub case-s : statementOf caseFile ≡ caseStatement
+unfolding sumTo largestFirst listed put refuse _then_ first sizeRefusal quotient remainder leftover comesBefore getsCent share shares turns groups.among groups.weightsIn groups.amount groups.amounts groups.refusal groups.groupsInTurn service.zoneUse service.nonzoneUse service.uses service.zoneSide service.nonzoneSide service.zoneShare service.nonzonePot service.nonzoneParts service.nonzoneShare service.serviceCharge turn.splitRefusal turn.shareRefusal turn.nonzoneRefusal turn.zoneTurn turn.serviceInTurn isMonth through twelfth month.useOf month.nearest month.networkCharge any rows.rowNumber rows.notAbove rows.unknown rows.taken rows.zoneOutside rows.zoneRow rows.ownerOutside rows.ownerRow rows.unitOutside rows.unitRow rows.accountOutside rows.accountRow rows.loadOutside rows.loadRow rows.reservationOutside rows.reservationRow judgement.inTurn judgement.counted judgement.roomFor judgement.headJudged judgement.rowsJudged judgement.judged contributions reserved curtailed accountUse network.rateOf network.rate network.networkCharge network.chargesIn network.requirements network.networkCredit network.nonzoneCredit network.nonzoneRefusal services.unitCredit services.partOf services.creditIn services.serviceCredit services.zonePot services.zonePart services.nonzonePart services.serviceCharge networkInTurn divisionsInTurn answerOf chargeOf creditOf chargeWords creditWords isDigit digitsOn number past field fields line digits decimal fieldsText lineText reading.rows reading.heads reading.tables reading.rowsIn reading.ending reading.reading rowsText rowsWith linesText allCharges allCredits statementLines settledAnswer refuseLine settledText statementOf
+case-s = refl

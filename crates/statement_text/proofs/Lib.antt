@@ -1,0 +1,11 @@
+pub mod Joining
+pub mod Showing
+pub mod Readings
+pub mod Totals
+pub mod Settling
+pub mod Stating
+pub mod Sizes
+pub mod Telling
+pub mod CaseS
+pub mod Promises
+pub mod Unique

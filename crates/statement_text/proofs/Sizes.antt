@@ -1,0 +1,137 @@
+-- No statement has more than 10,128 bytes, for a number has 20 at most; and an accepted month's begins otherwise than a refusal.
+-- Assumes nothing.
+use mathlib.Core.Path.{_≡_, refl, sym, ap, _∙_}
+use mathlib.Core.Logic.{_≢_, ⊎-elim}
+use mathlib.Core.Bool.{Bool, true, false, cond}
+use mathlib.Core.List.{List, [], _∷_, _++_}
+use Prim.Native.Nat.{ℕ, zero, suc, _+_, _*_, _/_, _%_, _≤_, _<_}
+use native.Mathlib.Nat.{le-refl, le-trans, le-of-eq, suc-mul, zero-mul, mul-le-mul-right}
+use native.Mathlib.Omega.{arith}
+use lib.Dec.{ltb, eqb}
+use lib.ListN.{length, take, drop, length-append, length-take}
+use Rattle.lists.specs.Sums.{at}
+use Rattle.lists.proofs.Ranks.{lt-or-le}
+use Rattle.answer.specs.declared.Answer.{Answer}
+use Rattle.answer.specs.Numbers.{COUNT, head}
+use Rattle.answer.specs.Turns.{refuse}
+use Rattle.answer.proofs.Turns.{zero-or-not}
+use Rattle.tables.specs.declared.Table.the-variants.{Owners, Accounts}
+use Rattle.tables.specs.Shape.{limit, chargeWidth, creditWidth}
+use Rattle.text.specs.Bytes.{bytes}
+use Rattle.text.specs.Numbers.{byteOf, digits, decimal}
+use Rattle.text.specs.Lines.{equals, separator, fieldsText, lineText}
+use Rattle.monthfile.specs.Form.{monthForm}
+use Rattle.monthfile.specs.Reading.{Outcome, got, refused, Contents, reading}
+use Rattle.monthfile.specs.Writing.{rowsText}
+use Rattle.settlement.specs.Input.{Input, ownerCount, accountCount}
+use Rattle.settlement.specs.Accepted.{Accepted}
+use Rattle.settlement.proofs.Accepting.{answer-accepted}
+use Rattle.statement_text.specs.Statement.{linesText, statementLines, settledAnswer, refuseLine, monthOf, settledText, foundText, mostBytes, statementOf}
+use Rattle.statement_text.proofs.Stating.{settled-accepted, settled-refused, long-text, short-text}
+
+either-short : (t : Bool) (x y : List ℕ) (most : ℕ) → length x ≤ most → length y ≤ most → length (cond t x y) ≤ most
+either-short true x y most h k = h
+either-short false x y most h k = k
+
+digits-short : (most n : ℕ) → length (digits most n) ≤ most
+unfolding digits
+digits-short zero n = le-refl 0
+digits-short (suc most) n =
+    either-short (ltb n 10) (byteOf n ∷ []) (digits most (n / 10) ++ (byteOf (n % 10) ∷ [])) (suc most) (omega arith)
+    (omega (arith, length-append (digits most (n / 10)) (byteOf (n % 10) ∷ []), digits-short most (n / 10)))
+
+fields-short : (ns : List ℕ) → length (fieldsText ns) ≤ length ns * 21
+unfolding fieldsText decimal
+fields-short [] = le-refl 0
+fields-short (n ∷ ns) =
+    omega (
+      arith,
+      length-append (digits 20 n) (separator (length ns) ∷ fieldsText ns),
+      digits-short 20 n,
+      fields-short ns,
+      suc-mul (length ns) 21,
+    )
+
+line-short : (key ns : List ℕ) → length (lineText key ns) ≤ length key + 1 + length ns * 21
+unfolding lineText
+line-short key ns =
+    omega (
+      arith,
+      length-append (key ++ (equals ∷ [])) (fieldsText ns),
+      length-append key (equals ∷ []),
+      fields-short ns,
+    )
+
+take-short : (n : ℕ) (l : List ℕ) → length (take n l) ≤ n
+take-short n l = omega (arith, length-take n l)
+
+rows-short : (key : List ℕ) (width size : ℕ) → length key + 1 + width * 21 ≤ size → (n : ℕ) (words : List ℕ) → length (rowsText key width n words) ≤ n * size
+unfolding rowsText
+rows-short key width size h zero words = omega arith
+rows-short key width size h (suc n) words =
+    omega (
+      arith,
+      h,
+      length-append (lineText key (take width words)) (rowsText key width n (drop width words)),
+      line-short key (take width words),
+      mul-le-mul-right 21 (take-short width words),
+      rows-short key width size h n (drop width words),
+      suc-mul n size,
+    )
+
+lines-short : (accounts : ℕ) (charges : List ℕ) (owners : ℕ) (credits : List ℕ) (x y : ℕ)
+    → length (linesText accounts charges owners credits (bytes "total") (x ∷ y ∷ [])) ≤ accounts * 91 + (owners * 112 + 48)
+unfolding linesText
+lines-short accounts charges owners credits x y =
+    omega (
+      arith,
+      length-append (rowsText (bytes "charge") 4 accounts charges) (rowsText (bytes "credit") 5 owners credits ++ lineText (bytes "total") (x ∷ y ∷ [])),
+      length-append (rowsText (bytes "credit") 5 owners credits) (lineText (bytes "total") (x ∷ y ∷ [])),
+      rows-short (bytes "charge") 4 91 (omega arith) accounts charges,
+      rows-short (bytes "credit") 5 112 (omega arith) owners credits,
+      line-short (bytes "total") (x ∷ y ∷ []),
+    )
+
+refusal-short : (a : Answer) → length (refuseLine a) ≤ 10128
+unfolding refuseLine
+refusal-short a = le-trans (line-short (bytes "refuse") (a .number ∷ a .table ∷ a .row ∷ [])) (omega arith)
+
+settled-short : (m : Input) → length (settledText m) ≤ 10128
+unfolding statementLines settledAnswer
+settled-short m =
+    ⊎-elim
+    (λ (z : settledAnswer m .number ≡ 0).
+    let all : Accepted m (limit Accounts * chargeWidth) (limit Owners * creditWidth) =
+    answer-accepted m (limit Accounts * chargeWidth) (limit Owners * creditWidth) z in
+    let few : accountCount m ≤ 32 = all .good .frame .counted Accounts .few in
+    let others : ownerCount m ≤ 64 = all .good .frame .counted Owners .few in
+    le-trans (le-of-eq (ap length (settled-accepted m z)))
+    (le-trans (lines-short (accountCount m) _ (ownerCount m) _ _ _) (omega (arith, few, others))))
+    (λ (d : settledAnswer m .number ≢ 0). le-trans (le-of-eq (ap length (settled-refused m d))) (refusal-short (settledAnswer m)))
+    (zero-or-not (settledAnswer m .number))
+
+found-short : (o : Outcome Contents) → length (foundText o) ≤ 10128
+found-short (refused a) = refusal-short a
+found-short (got c rest) = settled-short (monthOf c)
+
+pub statement-short : (text : List ℕ) → length (statementOf text) ≤ 10128
+statement-short text =
+    ⊎-elim
+    (λ (h : mostBytes < length text). le-trans (le-of-eq (ap length (long-text text h))) (refusal-short (refuse COUNT head 0)))
+    (λ (h : length text ≤ mostBytes). le-trans (le-of-eq (ap length (short-text text h))) (found-short (reading monthForm text)))
+    (lt-or-le mostBytes (length text))
+
+-- the first byte of an accepted month's lines is a c or a t
+no-r : (accounts : ℕ) (charges : List ℕ) (owners : ℕ) (credits last : List ℕ) → at (linesText accounts charges owners credits (bytes "total") last) 0 ≢ 114
+unfolding linesText rowsText lineText
+no-r zero charges zero credits last e = let z : _≡_ {A = ℕ} 116 114 = e in omega arith
+no-r zero charges (suc owners) credits last e = let z : _≡_ {A = ℕ} 99 114 = e in omega arith
+no-r (suc accounts) charges owners credits last e = let z : _≡_ {A = ℕ} 99 114 = e in omega arith
+
+first-of-refusal : (a : Answer) → at (refuseLine a) 0 ≡ 114
+unfolding refuseLine lineText
+first-of-refusal a = refl
+
+pub lines-no-refusal : (m : Input) (a : Answer) → statementLines m ≢ refuseLine a
+unfolding statementLines
+lines-no-refusal m a e = no-r (accountCount m) _ (ownerCount m) _ _ (ap (λ l. at l 0) e ∙ first-of-refusal a)

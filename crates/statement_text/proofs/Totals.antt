@@ -1,0 +1,178 @@
+-- The figures of an accepted month, row by row in lent words, are its lines, and add up to its totals, which fit a word.
+-- Assumes nothing.
+use mathlib.Core.Path.{_≡_, refl, sym, ap, ap₂, _∙_, subst}
+use mathlib.Core.Logic.{inl, inr}
+use mathlib.Core.Bool.{Bool, true, false}
+use mathlib.Core.List.{List, [], _∷_}
+use Prim.Native.Nat.{ℕ, zero, suc, _+_, _*_, _/_, _%_, _≤_, _<_, _^_}
+use native.Mathlib.Nat.{add-zero, add-suc, add-assoc, suc-mul, zero-mul, mod-lt, div-lt-iff-lt-mul, le-trans, lt-of-le-of-lt, le-refl, lt-of-lt-of-le, le-of-eq}
+use native.Mathlib.Omega.{arith}
+use lib.Arith.{digits-div, digits-mod, digits-lt}
+use lib.Dec.{eqb, lit<}
+use lib.ListN.{length}
+use Rattle.lists.specs.Sums.{sumTo, at, when}
+use Rattle.lists.proofs.Sums.{sum-eq, sum-swap}
+use Rattle.lists.proofs.Entries.{listed-eq}
+use Rattle.tables.specs.declared.Table.{Table}
+use Rattle.tables.specs.declared.Table.the-variants.{Zones, Owners, Units, Accounts, Loads, Reservations}
+use Rattle.tables.specs.Shape.{width, limit, rows, chargeWidth, creditWidth}
+use Rattle.tables.specs.Columns.{entry, ownerNumber, unitService, accountNumber}
+use Rattle.tables.specs.Limits.{blackStart, reactive}
+use Rattle.text.specs.Bytes.{bytes}
+use Rattle.settlement.specs.Input.{Input, ownerCount, unitCount, accountCount}
+use Rattle.settlement.specs.Network.{networkCharge}
+use Rattle.settlement.specs.Services.{unitCredit, creditIn, serviceCredit, serviceCharge}
+use Rattle.settlement.specs.Settled.{laid, answerOf, chargeOf, creditOf}
+use Rattle.settlement.specs.Accepted.{IsService, Accepted}
+use Rattle.settlement.specs.Steps.{Holds}
+use Rattle.settlement.proofs.Accepting.{answer-accepted}
+use Rattle.settlement.proofs.Balance as balance
+use Rattle.settlement.proofs.Ranges.{at-most, charge-within, unit-credit-within}
+use Rattle.settlement.proofs.Promises as promises
+use Rattle.statement_text.specs.declared.figures.Figures.{Figures}
+use Rattle.statement_text.specs.Statement.{withNumber, rowsWith, linesText, allCharges, allCredits, statementLines, settledAnswer}
+use Rattle.statement_text.specs.Steps.{figureAt, Rowed, Figured, monthLines, Laid}
+
+-- a figure at its flat index
+pub laid-at : (width : ℕ) (f : ℕ → ℕ → ℕ) (column i : ℕ) → column < width → laid width f (i * width + column) ≡ f column i
+laid-at width f column i h = ap₂ f (digits-mod i h) (digits-div i h)
+
+-- a sum over some positions, and then over others
+sum-on : (m n : ℕ) (f : ℕ → ℕ) → sumTo (m + n) f ≡ sumTo m f + sumTo n (λ i. f (m + i))
+unfolding sumTo
+sum-on m zero f = ap (λ k. sumTo k f) (add-zero m) ∙ sym (add-zero (sumTo m f))
+sum-on m (suc n) f =
+    ap (λ k. sumTo k f) (add-suc m n)
+    ∙ ap (λ s. s + f (m + n)) (sum-on m n f)
+    ∙ add-assoc (sumTo m f) (sumTo n (λ i. f (m + i))) (f (m + n))
+
+-- all figures laid end to end add up row by row, and so column by column
+by-rows : (n width : ℕ) (f : ℕ → ℕ → ℕ) → sumTo (n * width) (laid width f) ≡ sumTo n (λ i. sumTo width (λ column. f column i))
+unfolding sumTo
+by-rows zero width f = ap (λ k. sumTo k (laid width f)) (zero-mul width)
+by-rows (suc n) width f =
+    ap (λ k. sumTo k (laid width f)) (suc-mul n width)
+    ∙ sum-on (n * width) width (laid width f)
+    ∙ ap₂ _+_ (by-rows n width f)
+    (sum-eq width (λ column. laid width f (n * width + column)) (λ column. f column n) (λ column h. laid-at width f column n h))
+
+pub flat-sum : (n width : ℕ) (f : ℕ → ℕ → ℕ) → sumTo (n * width) (laid width f) ≡ sumTo width (λ column. sumTo n (f column))
+flat-sum n width f = by-rows n width f ∙ sum-swap n width (λ i column. f column i)
+
+-- rows with the same numbers and the same figures are the same
+rows-same : (n width : ℕ) (number number′ : ℕ → ℕ) (figure figure′ : ℕ → ℕ → ℕ)
+    → ((i : ℕ) → i < n → number i ≡ number′ i)
+    → ((column i : ℕ) → column < width → i < n → figure column i ≡ figure′ column i)
+    → rowsWith n width number figure ≡ rowsWith n width number′ figure′
+unfolding rowsWith
+rows-same n width number number′ figure figure′ p q =
+    listed-eq (n * (width + 1)) (laid (width + 1) (withNumber number figure)) (laid (width + 1) (withNumber number′ figure′))
+    (λ k b.
+    by (k % (width + 1)) (k / (width + 1)) (mod-lt k (omega arith))
+    (div-lt-iff-lt-mul {k = width + 1} {x = k} {y = n} (omega arith) .1 b))
+  where
+    by : (column i : ℕ) → column < width + 1 → i < n → withNumber number figure column i ≡ withNumber number′ figure′ column i
+    by zero i h b = p i b
+    by (suc column) i h b = q column i (omega arith) b
+
+-- words that hold figures laid end to end
+figures-held : (n width : ℕ) (f : ℕ → ℕ → ℕ) (words : List ℕ) → Holds (n * width) (laid width f) words
+    → (column i : ℕ) → column < width → i < n → figureAt width words column i ≡ f column i
+figures-held n width f words held column i h b = held .words (i * width + column) (digits-lt b h) ∙ laid-at width f column i h
+
+sum-held : (n width : ℕ) (f : ℕ → ℕ → ℕ) (words : List ℕ) → Holds (n * width) (laid width f) words
+    → sumTo (n * width) (at words) ≡ sumTo width (λ column. sumTo n (f column))
+sum-held n width f words held = sum-eq (n * width) (at words) (laid width f) (held .words) ∙ flat-sum n width f
+
+when-within : (t : Bool) (x most : ℕ) → x ≤ most → when t x ≤ most
+when-within true x most h = h
+when-within false x most h = omega arith
+
+module _ {m : Input} {lentCharges lentCredits : ℕ} (all : Accepted m lentCharges lentCredits) where
+  few : (table : Table) → rows table (Rattle.tables.specs.Shape.wordsOf (m .tables) table) ≤ limit table
+  few table = all .good .frame .counted table .few
+
+  service-total : (s : ℕ) → IsService s → sumTo (accountCount m) (serviceCharge m s) ≤ 64 * (2 * 10 ^ 12)
+  unfolding creditIn
+  service-total s i =
+      le-trans
+      (le-of-eq
+      (promises.service-charges-are-credits all s i ∙ balance.owners-have-credits m lentCharges lentCredits (all .good) s))
+      (at-most (unitCount m) 64 (2 * 10 ^ 12) (creditIn m s) (few Units)
+      (λ u b. when-within (eqb (unitService (m .tables .units) u) s) (unitCredit m u) (2 * 10 ^ 12) (unit-credit-within m lentCharges lentCredits (all .good) u b)))
+
+  -- the totals are equal, and below 2^64
+  pub totals-equal : allCharges m ≡ allCredits m
+  unfolding allCharges allCredits
+  totals-equal = promises.all-charges-are-credits all
+
+  pub charges-small : allCharges m < 2 ^ 64
+  unfolding allCharges chargeOf sumTo
+  charges-small =
+      omega (
+        arith,
+        at-most (accountCount m) 32 (10 ^ 12) (networkCharge m) (few Accounts) (λ a b. charge-within m lentCharges lentCredits (all .good) a),
+        service-total blackStart (inl refl),
+        service-total reactive (inr refl),
+      )
+
+-- an accepted month's figures in lent words
+module _ {m : Input} {accounts owners charges credits : List ℕ} {r : Figures} (l : Laid m accounts owners charges credits r) where
+  all-fine : Accepted m (limit Accounts * chargeWidth) (limit Owners * creditWidth)
+  unfolding settledAnswer
+  all-fine = answer-accepted m (limit Accounts * chargeWidth) (limit Owners * creditWidth) (l .accepted)
+
+  charges-sum : sumTo (accountCount m * chargeWidth) (at charges) ≡ allCharges m
+  unfolding allCharges
+  charges-sum = sum-held (accountCount m) chargeWidth (chargeOf m) charges (l .charges-held)
+
+  credits-sum : sumTo (ownerCount m * creditWidth) (at credits) ≡ allCredits m
+  unfolding allCredits
+  credits-sum = sum-held (ownerCount m) creditWidth (creditOf m) credits (l .credits-held)
+
+  pub laid-accounts : Figured Accounts chargeWidth (r .accounts) accounts charges
+  laid-accounts =
+      subst (λ n. Figured Accounts chargeWidth n accounts charges) (sym (l .account-rows))
+      (record {
+        rowed =
+            record {
+              narrow = omega arith;
+              rows-there = omega (arith, l .accounts-held .long);
+              figures-there = l .charges-held .long;
+            };
+        few = all-fine .good .frame .counted Accounts .few;
+        fits = lt-of-le-of-lt (le-of-eq charges-sum) (charges-small all-fine);
+      })
+
+  pub laid-owners : Figured Owners creditWidth (r .owners) owners credits
+  laid-owners =
+      subst (λ n. Figured Owners creditWidth n owners credits) (sym (l .owner-rows))
+      (record {
+        rowed =
+            record {
+              narrow = omega arith;
+              rows-there = omega (arith, l .owners-held .long);
+              figures-there = l .credits-held .long;
+            };
+        few = all-fine .good .frame .counted Owners .few;
+        fits = lt-of-le-of-lt (le-of-eq (credits-sum ∙ sym (totals-equal all-fine))) (charges-small all-fine);
+      })
+
+  lines-at : monthLines (accountCount m) accounts charges (ownerCount m) owners credits ≡ statementLines m
+  unfolding statementLines
+  lines-at =
+      ap₂ (λ x y. linesText (accountCount m) x (ownerCount m) y (bytes "total")
+      (sumTo (accountCount m * chargeWidth) (at charges) ∷ sumTo (ownerCount m * creditWidth) (at credits) ∷ []))
+      (rows-same (accountCount m) chargeWidth (entry Accounts 0 accounts) (accountNumber (m .tables .accounts)) (figureAt chargeWidth charges) (chargeOf m)
+      (λ i b. l .accounts-held .words (i * 3 + 0) (omega arith))
+      (figures-held (accountCount m) chargeWidth (chargeOf m) charges (l .charges-held)))
+      (rows-same (ownerCount m) creditWidth (entry Owners 0 owners) (ownerNumber (m .tables .owners)) (figureAt creditWidth credits) (creditOf m)
+      (λ i b. l .owners-held .words (i * 3 + 0) (omega arith))
+      (figures-held (ownerCount m) creditWidth (creditOf m) credits (l .credits-held)))
+      ∙ ap₂ (λ x y. linesText (accountCount m) (rowsWith (accountCount m) chargeWidth (accountNumber (m .tables .accounts)) (chargeOf m))
+      (ownerCount m) (rowsWith (ownerCount m) creditWidth (ownerNumber (m .tables .owners)) (creditOf m)) (bytes "total") (x ∷ y ∷ []))
+      charges-sum credits-sum
+
+  pub laid-lines : monthLines (r .accounts) accounts charges (r .owners) owners credits ≡ statementLines m
+  laid-lines =
+      ap₂ (λ n k. monthLines n accounts charges k owners credits) (l .account-rows) (l .owner-rows) ∙ lines-at

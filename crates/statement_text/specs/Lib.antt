@@ -1,0 +1,4 @@
+pub mod Statement
+pub mod Calls
+pub mod Steps
+pub mod Told
