@@ -1,23 +1,21 @@
 -- What "the first refusal in turn" means: nothing is refused exactly where every look is fine, and a refusal is that of the
 -- first look that is not. By induction on how many looks there are, adding the last one.
 -- Assumes nothing.
-use mathlib.Core.Path.{_≡_, refl, sym, ap, _∙_, subst}
-use mathlib.Core.Logic.{_⊎_, inl, inr, ⊎-elim, _≢_}
-use mathlib.Core.Bool.{Bool, true, false, cond}
-use Prim.Native.Nat.{ℕ, zero, suc, _+_, _≤_, _<_}
+use mathlib.Core.Path.{_≡_, refl, sym, ap, ap₂, _∙_, subst}
+use mathlib.Core.Logic.{_⊎_, ⊎-elim, _≢_}
+use mathlib.Core.Bool.{Bool, true, false}
+use Prim.Native.Nat.{ℕ, zero, suc, _+_, _<_}
 use native.Mathlib.Nat.{not-suc-le-zero, le-step, lt-suc-self}
 use native.Mathlib.Numerals.{add-one}
-use native.Mathlib.Omega.{arith}
-use borrow.Author.Tests.{eq-eqb, ne-eqb, eqb-true, eqb-false}
-use lib.Dec.{eqb}
+use borrow.Author.Tests.{eq-eqb, ne-eqb}
 use Rattle.lists.proofs.Sums.{last-or-below}
-use Rattle.lists.proofs.Ranks.{true-or-false}
+use Rattle.lists.proofs.Ranks.{equal-or-not}
 use Rattle.answer.specs.declared.Answer.{Answer}
-use Rattle.answer.specs.Turns.{look, accepted, refuse, _then_, first}
+use Rattle.answer.specs.Turns.{look, accepted, refuse, _then_, turns, first}
 
 -- a number is 0 or not
 pub zero-or-not : (n : ℕ) → (n ≡ 0) ⊎ (n ≢ 0)
-zero-or-not n = ⊎-elim (λ e. inl (eqb-true n 0 e)) (λ e. inr (eqb-false n 0 e)) (true-or-false (eqb n 0))
+zero-or-not n = equal-or-not n 0
 
 -- a look that finds a fault gives its number; one that finds none leaves the answer to the next
 pub look-fault : (fault : Bool) (number next : ℕ) → fault ≡ true → look fault number next ≡ number
@@ -62,26 +60,83 @@ refuse-number n table row =
     (λ (d : n ≢ 0). ap (λ (r : Answer). r .number) (refuse-some n table row d))
     (zero-or-not n)
 
--- an answer that refuses nothing is the accepted one, for each answer that turns give
+-- the same answers in turn give the same
+pub turns-eq : (a b : ℕ → Answer) (n : ℕ) → ((i : ℕ) → i < n → a i ≡ b i) → turns a n ≡ turns b n
+unfolding turns
+turns-eq a b zero e = refl
+turns-eq a b (suc n) e = ap₂ _then_ (turns-eq a b n (λ i h. e i (le-step h))) (e n (lt-suc-self n))
+
+pub turns-suc : (a : ℕ → Answer) (n : ℕ) → turns a (n + 1) ≡ (turns a n then a n)
+unfolding turns
+turns-suc a n = rw add-one
+
+-- nothing is refused where every answer is the accepted one
+pub turns-none : (a : ℕ → Answer) (n : ℕ) → ((i : ℕ) → i < n → a i ≡ accepted) → turns a n ≡ accepted
+unfolding turns
+turns-none a zero h = refl
+turns-none a (suc n) h =
+    ap (λ (r : Answer). r then a n) (turns-none a n (λ i b. h i (le-step b)))
+    ∙ then-second accepted (a n) refl
+    ∙ h n (lt-suc-self n)
+
+-- where nothing is refused, no answer is a refusal
+pub turns-all : (a : ℕ → Answer) (n : ℕ) → turns a n .number ≡ 0 → (i : ℕ) → i < n → a i .number ≡ 0
+unfolding turns
+turns-all a zero e i h = absurd (not-suc-le-zero h)
+turns-all a (suc n) e i h =
+    let parts : (turns a n .number ≡ 0) × (a n .number ≡ 0) = then-none (turns a n) (a n) e in
+    ⊎-elim
+    (λ (q : i ≡ n). ap (λ k. a k .number) q ∙ parts .1)
+    (λ (b : i < n). turns-all a n (parts .0) i b)
+    (last-or-below n i h)
+
+-- the first answer that refuses is the one given
+pub turns-stop : (a : ℕ → Answer) (n i : ℕ) → i < n → ((j : ℕ) → j < i → a j ≡ accepted) → a i .number ≢ 0 → turns a n ≡ a i
+unfolding turns
+turns-stop a zero i h fine bad = absurd (not-suc-le-zero h)
+turns-stop a (suc n) i h fine bad =
+    ⊎-elim
+    (λ (q : i ≡ n).
+    then-second (turns a n) (a n) (ap (λ (r : Answer). r .number) (turns-none a n (λ j b. fine j (rw q b))))
+    ∙ ap a (sym q))
+    (λ (b : i < n).
+    let before : turns a n ≡ a i = turns-stop a n i b fine bad in
+    then-first (turns a n) (a n) (λ z. bad (ap (λ (r : Answer). r .number) (sym before) ∙ z)) ∙ before)
+    (last-or-below n i h)
+
+-- what a refusal says: it is one of the answers, and none before it refuses
+pub record StoppedAt (a : ℕ → Answer) (n : ℕ) (r : Answer) : Type 0 where
+  pub turn : ℕ
+  pub within : turn < n
+  pub its : r ≡ a turn
+  pub earlier : (j : ℕ) → j < turn → a j .number ≡ 0
+
+pub turns-refused : (a : ℕ → Answer) (n : ℕ) → turns a n .number ≢ 0 → StoppedAt a n (turns a n)
+unfolding turns
+turns-refused a zero d = absurd (d refl)
+turns-refused a (suc n) d =
+    ⊎-elim
+    (λ (z : turns a n .number ≡ 0).
+    record { turn = n; within = lt-suc-self n; its = then-second (turns a n) (a n) z; earlier = turns-all a n z })
+    (λ (e : turns a n .number ≢ 0).
+    let before : StoppedAt a n (turns a n) = turns-refused a n e in
+    record {
+      turn = before .turn;
+      within = le-step (before .within);
+      its = then-first (turns a n) (a n) e ∙ before .its;
+      earlier = before .earlier;
+    })
+    (zero-or-not (turns a n .number))
+
+-- the rows of a table in turn: where each is fine, nothing is refused ..
 pub first-none : (table : ℕ) (f : ℕ → ℕ) (n : ℕ) → ((i : ℕ) → i < n → f i ≡ 0) → first table f n ≡ accepted
 unfolding first
-first-none table f zero h = refl
-first-none table f (suc n) h =
-    ap (λ (a : Answer). a then refuse (f n) table n) (first-none table f n (λ i b. h i (le-step b)))
-    ∙ then-second accepted (refuse (f n) table n) refl
-    ∙ refuse-none (f n) table n (h n (lt-suc-self n))
+first-none table f n h = turns-none _ n (λ i b. refuse-none (f i) table i (h i b))
 
--- where nothing is refused, every look was fine
+-- .. and where nothing is refused, each is fine
 pub first-all : (table : ℕ) (f : ℕ → ℕ) (n : ℕ) → first table f n .number ≡ 0 → (i : ℕ) → i < n → f i ≡ 0
 unfolding first
-first-all table f zero e i h = absurd (not-suc-le-zero h)
-first-all table f (suc n) e i h =
-    let parts : (first table f n .number ≡ 0) × (refuse (f n) table n .number ≡ 0) =
-    then-none (first table f n) (refuse (f n) table n) e in
-    ⊎-elim
-    (λ (q : i ≡ n). ap f q ∙ sym (refuse-number (f n) table n) ∙ parts .1)
-    (λ (b : i < n). first-all table f n (parts .0) i b)
-    (last-or-below n i h)
+first-all table f n e i h = sym (refuse-number (f i) table i) ∙ turns-all (λ k. refuse (f k) table k) n e i h
 
 -- what a refusal says: its row is one of them, the number is that row's, and every row before it is fine
 pub record RefusedAt (table : ℕ) (f : ℕ → ℕ) (n : ℕ) (a : Answer) : Type 0 where
@@ -92,26 +147,24 @@ pub record RefusedAt (table : ℕ) (f : ℕ → ℕ) (n : ℕ) (a : Answer) : Ty
 
 pub first-refused : (table : ℕ) (f : ℕ → ℕ) (n : ℕ) → first table f n .number ≢ 0 → RefusedAt table f n (first table f n)
 unfolding first
-first-refused table f zero d = absurd (d refl)
-first-refused table f (suc n) d =
-    ⊎-elim
-    (λ (z : first table f n .number ≡ 0).
-    let second : (first table f n then refuse (f n) table n) ≡ refuse (f n) table n =
-    then-second (first table f n) (refuse (f n) table n) z in
-    let bad : f n ≢ 0 = λ e. d (ap (λ (r : Answer). r .number) second ∙ refuse-number (f n) table n ∙ e) in
-    subst (RefusedAt table f (suc n)) (sym (second ∙ refuse-some (f n) table n bad))
-    (record { at-table = refl; at-row = lt-suc-self n; its-number = refl; earlier-fine = first-all table f n z }))
-    (λ (e : first table f n .number ≢ 0).
-    let before : RefusedAt table f n (first table f n) = first-refused table f n e in
-    subst (RefusedAt table f (suc n)) (sym (then-first (first table f n) (refuse (f n) table n) e))
+first-refused table f n d =
+    let stopped = turns-refused (λ i. refuse (f i) table i) n d in
+    let row : ℕ = stopped .turn in
+    let bad : f row ≢ 0 = λ e. d (ap (λ (r : Answer). r .number) (stopped .its) ∙ refuse-number (f row) table row ∙ e) in
+    subst (RefusedAt table f n) (sym (stopped .its ∙ refuse-some (f row) table row bad))
     (record {
-      at-table = before .at-table;
-      at-row = le-step (before .at-row);
-      its-number = before .its-number;
-      earlier-fine = before .earlier-fine;
-    }))
-    (zero-or-not (first table f n .number))
+      at-table = refl;
+      at-row = stopped .within;
+      its-number = refl;
+      earlier-fine = λ i b. sym (refuse-number (f i) table i) ∙ stopped .earlier i b;
+    })
 
 pub first-suc : (table : ℕ) (f : ℕ → ℕ) (n : ℕ) → first table f (n + 1) ≡ (first table f n then refuse (f n) table n)
 unfolding first
-first-suc table f n = rw add-one
+first-suc table f n = turns-suc _ n
+
+-- the first row that is refused gives the answer
+pub first-at : (table : ℕ) (f : ℕ → ℕ) (n i : ℕ) → i < n → ((j : ℕ) → j < i → f j ≡ 0) → f i ≢ 0 → first table f n ≡ refuse (f i) table i
+unfolding first
+first-at table f n i h fine bad =
+    turns-stop _ n i h (λ j b. refuse-none (f j) table j (fine j b)) (λ z. bad (sym (refuse-number (f i) table i) ∙ z))

@@ -22,7 +22,11 @@ infixl 20 _then_
 unfoldable pub _then_ : Answer → Answer → Answer
 a then b = cond (eqb (a .number) 0) b a
 
+-- "then its divisions in turn": the first refusal of a 0, a 1, .. a (n − 1)
+unfoldable pub turns : (ℕ → Answer) → ℕ → Answer
+turns a zero = accepted
+turns a (suc n) = turns a n then a n
+
 -- the first refusal of the rows 0, 1, .. n − 1 of a table; f gives each row's number, 0 where the row is fine
 unfoldable pub first : ℕ → (ℕ → ℕ) → ℕ → Answer
-first table f zero = accepted
-first table f (suc n) = first table f n then refuse (f n) table n
+first table f n = turns (λ i. refuse (f i) table i) n

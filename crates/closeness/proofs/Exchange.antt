@@ -13,9 +13,10 @@ use lib.Seq.{getD-set-other}
 use borrow.Author.Tests.{leb-false}
 use Rattle.lists.specs.Sums.{sumTo, at, total}
 use Rattle.lists.proofs.Ranks.{true-or-false}
+use Rattle.lists.proofs.Search.{some-failing}
 use Rattle.closeness.specs.Closeness.{distance, squares, Closest, level}
 use Rattle.closeness.proofs.Squares.{squared, step-closer}
-use Rattle.closeness.proofs.Positions.{lowest, some-position, some-failing, sum-set}
+use Rattle.closeness.proofs.Positions.{lowest, some-position, sum-set}
 use Rattle.closeness.proofs.Level.{none-above}
 
 -- the list after one cent has moved from one position to another

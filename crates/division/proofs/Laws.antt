@@ -4,31 +4,34 @@
 use mathlib.Core.Path.{_≡_, refl, sym, ap, ap₂, _∙_, subst}
 use mathlib.Core.Logic.{_⊎_, inl, inr, ⊎-elim, _≢_}
 use mathlib.Core.Bool.{Bool, true, false}
-use mathlib.Core.List.{List, _++_}
-use Prim.Native.Nat.{ℕ, _+_, _*_, _/_, _%_, _≤_, _<_, min}
-use native.Mathlib.Nat.{le-trans, zero-mul, zero-div, zero-mod, zero-sub}
+use mathlib.Core.List.{List}
+use Prim.Native.Nat.{ℕ, _+_, _/_, _≤_, _<_, min}
+use native.Mathlib.Nat.{le-trans, zero-mul, zero-div, zero-sub}
 use native.Mathlib.Omega.{arith}
 use lib.Dec.{ltb}
-use lib.ListN.{length, drop, List·getD-eq-default}
-use borrow.Author.Tests.{le-ltb, lt-ltb, ltb-false, eq-eqb, ne-eqb}
+use lib.ListN.{length, List·getD-eq-default}
+use borrow.Author.Tests.{le-ltb, lt-ltb, ltb-false}
 use Rattle.lists.specs.Sums.{sumTo, at, total, bit, count, rank}
 use Rattle.lists.specs.Entries.{kept}
 use Rattle.lists.proofs.Sums.{le-sum, sum-zero}
 use Rattle.lists.proofs.Ranks.{lt-or-le}
 use Rattle.lists.proofs.Entries.{length-listed, at-listed, total-listed}
 use Rattle.lists.proofs.Members.{length-kept, place-below}
-use Rattle.answer.specs.Numbers.{COUNT, BASE}
+use Rattle.answer.specs.Numbers.{COUNT, BIG, BASE}
 use Rattle.answer.proofs.Turns.{zero-or-not, look-none}
 use Rattle.division.specs.Limits.{mostWeights, potLimit, weightLimit, sizeRefusal, divideRefusal}
-use Rattle.division.specs.Shares.{quotient, leftover, comesBefore, getsCent, share, shares, memory}
+use Rattle.division.specs.Shares.{quotient, leftover, comesBefore, getsCent, share, shares}
+use Rattle.division.specs.Refused.{SizeRefused, by-big, by-base}
 use Rattle.division.specs.Check.{verdict, numberOf}
 use Rattle.division.specs.declared.Verdict.the-variants.{Refused}
-use Rattle.division.proofs.Handed.{Sized, sized}
+use Rattle.division.proofs.Handed.{sized}
 use Rattle.division.proofs.Parts.{share-is, shares-sum, nothing-cut}
 use Rattle.division.proofs.Refusals as refusals
 use Rattle.division.proofs.Verdicts as verdicts
 use Rattle.division.proofs.Reasons as reasons
 use Rattle.division.proofs.Members.{no-quotient, no-remainder, share-alone, total-kept}
+-- the number of a call with the right counts, and what it leaves in the lent words
+pub use Rattle.division.proofs.Refusals.{by-size, memory-accepted, memory-refused}
 
 -- there are as many shares as weights
 pub length-shares : (pot : ℕ) (weights : List ℕ) → length (shares pot weights) ≡ length weights
@@ -113,6 +116,30 @@ total-among weights member others = total-kept 0 weights member others
 pub size-accepted : (pot w : ℕ) → sizeRefusal pot w ≡ 0 → (pot ≤ potLimit) × (w ≤ weightLimit) × (w ≡ 0 → pot ≡ 0)
 size-accepted pot w e = let s = sized pot w e in (s .pot-fits, s .sum-fits, s .zero-sum)
 
+-- no share of sizes that are not refused is above the limit of a pot
+pub share-fits : (pot : ℕ) (weights : List ℕ) → sizeRefusal pot (total weights) ≡ 0 → (i : ℕ) → at (shares pot weights) i ≤ potLimit
+share-fits pot weights e i =
+    let known = size-accepted pot (total weights) e in
+    le-trans (share-within pot weights (known .2) i) (known .0)
+
+-- a pot and a sum of weights within their limits are not BIG ..
+pub never-big : (pot w : ℕ) → pot ≤ potLimit → w ≤ weightLimit → (sizeRefusal pot w ≡ 0) ⊎ (sizeRefusal pot w ≡ BASE)
+never-big pot w h k =
+    ⊎-elim inl (λ (d : sizeRefusal pot w ≢ 0). inr (go (reasons.size-why pot w (sizeRefusal pot w) refl d))) (zero-or-not (sizeRefusal pot w))
+  where
+    go : {n : ℕ} → SizeRefused pot w n → n ≡ BASE
+    go (by-big e over) = absurd (⊎-elim (λ (o : potLimit < pot). omega arith) (λ (o : weightLimit < w). omega arith) over)
+    go (by-base e fits some none) = e
+
+-- .. and a pot that is zero where the weights add up to zero is not BASE
+pub never-base : (pot w : ℕ) → (w ≡ 0 → pot ≡ 0) → (sizeRefusal pot w ≡ 0) ⊎ (sizeRefusal pot w ≡ BIG)
+never-base pot w base =
+    ⊎-elim inl (λ (d : sizeRefusal pot w ≢ 0). inr (go (reasons.size-why pot w (sizeRefusal pot w) refl d))) (zero-or-not (sizeRefusal pot w))
+  where
+    go : {n : ℕ} → SizeRefused pot w n → n ≡ BIG
+    go (by-big e over) = e
+    go (by-base e fits some none) = let zero : pot ≡ 0 = base none in absurd (omega arith)
+
 -- what is known of a division that is not refused
 pub divide-accepted : (pot : ℕ) (weights : List ℕ) (room : ℕ) → divideRefusal pot weights room ≡ 0
     → (length weights ≤ mostWeights) × (length weights ≤ room) × (pot ≤ potLimit) × (total weights ≤ weightLimit) × (total weights ≡ 0 → pot ≡ 0)
@@ -154,16 +181,6 @@ check-number pot weights amounts =
     (λ d.
     reasons.check-within pot weights amounts n
     (reasons.check-why pot weights amounts n (sym (verdicts.its-number pot weights amounts), d)))
-
--- the lent words of an accepted division begin with the shares, and those of a refused one are as they were
-pub memory-accepted : (pot : ℕ) (weights out : List ℕ) → divideRefusal pot weights (length out) ≡ 0
-    → memory pot weights out ≡ shares pot weights ++ drop (length weights) out
-unfolding memory
-memory-accepted pot weights out e = rw (eq-eqb (divideRefusal pot weights (length out)) 0 e)
-
-pub memory-refused : (pot : ℕ) (weights out : List ℕ) → divideRefusal pot weights (length out) ≢ 0 → memory pot weights out ≡ out
-unfolding memory
-memory-refused pot weights out d = rw (ne-eqb (divideRefusal pot weights (length out)) 0 d)
 
 -- a check of more than 64 weights, or of another number of amounts than weights, is refused with COUNT
 pub check-many-weights : (pot : ℕ) (weights amounts : List ℕ) → mostWeights < length weights → verdict pot weights amounts ≡ Refused COUNT

@@ -51,7 +51,7 @@ module _ (pot w : ℕ) where
       (zero-or-not w)
 
 module _ (pot w n : ℕ) where
-  size-why : sizeRefusal pot w ≡ n → n ≢ 0 → SizeRefused pot w n
+  pub size-why : sizeRefusal pot w ≡ n → n ≢ 0 → SizeRefused pot w n
   size-why e d =
       ⊎-elim
       (λ (over : potLimit < pot). by-big (sym e ∙ too-big pot w (inl over)) (inl over))

@@ -1,21 +1,20 @@
 -- The refusals of a call, from the tests that the code makes in turn; a sum that stops at one above its limit is refused as
 -- the whole sum is.
 -- Assumes nothing.
-use mathlib.Core.Path.{_≡_, refl, sym, ap, _∙_}
-use mathlib.Core.Logic.{⊎-elim}
-use mathlib.Core.Bool.{Bool, true, false, cond, or-true, _||_}
+use mathlib.Core.Path.{_≡_, sym, ap, _∙_}
+use mathlib.Core.Logic.{⊎-elim, _≢_}
+use mathlib.Core.Bool.{or-true}
 use mathlib.Core.List.{List, _++_}
 use Prim.Native.Nat.{ℕ, _+_, _≤_, _<_, min}
 use native.Mathlib.Nat.{min-eq-left, min-eq-right}
 use native.Mathlib.Omega.{arith}
-use lib.Dec.{ltb, eqb}
 use lib.ListN.{length, drop}
 use borrow.Author.Tests.{lt-ltb, le-ltb, eq-eqb, ne-eqb}
 use Rattle.lists.specs.Sums.{total}
 use Rattle.lists.specs.Entries.{put}
 use Rattle.lists.proofs.Ranks.{lt-or-le}
 use Rattle.lists.proofs.Entries.{put-listed}
-use Rattle.division.specs.Limits.{mostWeights, potLimit, weightLimit, sizeRefusal, divideRefusal, checkRefusal}
+use Rattle.division.specs.Limits.{mostWeights, weightLimit, sizeRefusal, divideRefusal}
 use Rattle.division.specs.Shares.{share, shares, memory, Divided}
 use Rattle.division.specs.declared.Division.{Division}
 use Rattle.division.proofs.Handed.{sized}
@@ -47,18 +46,15 @@ module _ (pot : ℕ) (weights : List ℕ) (room : ℕ) where
   unfolding divideRefusal
   by-size h k = rw (le-ltb mostWeights (length weights) h, le-ltb room (length weights) k)
 
--- a refusal leaves the lent words, and acceptance stores the shares
-pub memory-kept : (pot : ℕ) (weights out : List ℕ) (number : ℕ) → divideRefusal pot weights (length out) ≡ number → (number ≡ 0 → ⊥)
-    → out ≡ memory pot weights out
+-- the lent words of an accepted division begin with the shares, and those of a refused one are as they were
+pub memory-accepted : (pot : ℕ) (weights out : List ℕ) → divideRefusal pot weights (length out) ≡ 0
+    → memory pot weights out ≡ shares pot weights ++ drop (length weights) out
 unfolding memory
-memory-kept pot weights out number e d = rw (ne-eqb (divideRefusal pot weights (length out)) 0 (λ z. d (sym e ∙ z)))
+memory-accepted pot weights out e = rw (eq-eqb (divideRefusal pot weights (length out)) 0 e)
 
-pub memory-shared : (pot : ℕ) (weights out : List ℕ) → divideRefusal pot weights (length out) ≡ 0 → length weights ≤ length out
-    → put (length weights) (share pot weights) out ≡ memory pot weights out
-unfolding memory shares
-memory-shared pot weights out e room =
-    put-listed (length weights) (share pot weights) out room
-    ∙ (rw (eq-eqb (divideRefusal pot weights (length out)) 0 e))
+pub memory-refused : (pot : ℕ) (weights out : List ℕ) → divideRefusal pot weights (length out) ≢ 0 → memory pot weights out ≡ out
+unfolding memory
+memory-refused pot weights out d = rw (ne-eqb (divideRefusal pot weights (length out)) 0 d)
 
 -- the code's capped sum and number, once the counts are right
 pub number-is : (pot : ℕ) (weights : List ℕ) (sum number : ℕ) → sum ≡ min (total weights) 10_000_000_000_001 → number ≡ sizeRefusal pot sum
@@ -76,10 +72,16 @@ Answers r number = (r .answer .number ≡ number) × (r .answer .table ≡ 0) ×
 pub refused : (pot : ℕ) (weights out : List ℕ) (r : Division) (number : ℕ) → Answers r number
     → divideRefusal pot weights (length out) ≡ number → (number ≡ 0 → ⊥) → Divided pot weights out out r
 refused pot weights out r number a e d =
-    record { number = a .0 ∙ sym e; table = a .1; row = a .2; lent = memory-kept pot weights out number e d }
+    record { number = a .0 ∙ sym e; table = a .1; row = a .2; lent = sym (memory-refused pot weights out (λ z. d (sym e ∙ z))) }
 
 pub divided : (pot : ℕ) (weights out after : List ℕ) (r : Division) → Answers r 0
     → divideRefusal pot weights (length out) ≡ 0 → length weights ≤ length out
     → after ≡ put (length weights) (share pot weights) out → Divided pot weights out after r
+unfolding shares
 divided pot weights out after r a e room stored =
-    record { number = a .0 ∙ sym e; table = a .1; row = a .2; lent = stored ∙ memory-shared pot weights out e room }
+    record {
+      number = a .0 ∙ sym e;
+      table = a .1;
+      row = a .2;
+      lent = stored ∙ put-listed (length weights) (share pot weights) out room ∙ sym (memory-accepted pot weights out e);
+    }

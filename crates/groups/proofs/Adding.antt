@@ -9,41 +9,31 @@ use native.Mathlib.Nat.{le-trans}
 use native.Mathlib.Omega.{arith}
 use lib.ListN.{length, take, drop}
 use lib.Seq.{take-at, getD-take}
-use borrow.Author.Tests.{le-ltb, eq-eqb, ne-eqb}
+use borrow.Author.Tests.{ne-eqb}
 use Rattle.lists.specs.Sums.{at, total}
 use Rattle.lists.specs.Entries.{put}
-use Rattle.lists.proofs.Entries.{length-listed}
-use Rattle.division.specs.Limits.{mostWeights, potLimit, sizeRefusal, divideRefusal}
-use Rattle.division.specs.Shares.{shares, memory, Divided}
+use Rattle.lists.proofs.Entries.{length-listed, take-put}
+use Rattle.division.specs.Limits.{mostWeights, sizeRefusal}
+use Rattle.division.specs.Shares.{shares, Divided}
 use Rattle.division.specs.declared.Division.{Division}
-use Rattle.division.proofs.Laws.{length-shares, share-within, size-accepted}
+use Rattle.division.proofs.Laws.{length-shares, share-fits, by-size, memory-accepted}
 use Rattle.groups.specs.Groups.{among}
 use Rattle.groups.specs.Columns.{Addable, Added}
 use Rattle.groups.specs.Steps.{Kept}
-use Rattle.groups.proofs.Storing.{take-put}
-
--- no share of an accepted division is above the limit of a pot
-pub share-fits : (pot : ℕ) (weights : List ℕ) → sizeRefusal pot (total weights) ≡ 0 → (i : ℕ) → at (shares pot weights) i ≤ potLimit
-share-fits pot weights e i =
-    let known = size-accepted pot (total weights) e in
-    le-trans (share-within pot weights (known .2) i) (known .0)
 
 module _ {pot : ℕ} {weights lent after : List ℕ} {d : Division} (made : Divided pot weights lent after d)
     (few : length weights ≤ mostWeights) (long : length weights ≤ length lent)
   where
     pub number-by-size : d .answer .number ≡ sizeRefusal pot (total weights)
-    unfolding divideRefusal
-    number-by-size = made .number ∙ (rw (le-ltb mostWeights (length weights) few, le-ltb (length lent) (length weights) long))
+    number-by-size = made .number ∙ by-size pot weights (length lent) few long
 
     pub refused-adds-none : (column : List ℕ) → d .answer .number ≢ 0 → Added pot weights column column (d .answer .number)
     refused-adds-none column bad = record { number = number-by-size; lent = rw (ne-eqb (d .answer .number) 0 bad) }
 
     module _ (fine : d .answer .number ≡ 0) where
       front : take (length weights) after ≡ shares pot weights
-      unfolding memory
       front =
-          ap (take (length weights))
-          (made .lent ∙ (rw (eq-eqb (divideRefusal pot weights (length lent)) 0 (sym (made .number) ∙ fine))))
+          ap (take (length weights)) (made .lent ∙ memory-accepted pot weights lent (sym (made .number) ∙ fine))
           ∙ take-at (shares pot weights) (drop (length weights) lent) (length weights) (length-shares pot weights)
 
       -- each share stands in its word

@@ -8,18 +8,17 @@ use Prim.Native.Nat.{ℕ, _+_, _<_}
 use borrow.Author.Tests.{ne-eqb, eqb-true}
 use Rattle.lists.specs.Sums.{sumTo, at, total, when, count}
 use Rattle.lists.specs.Entries.{kept}
-use Rattle.lists.proofs.Sums.{sum-eq, sum-zero, sum-swap}
+use Rattle.lists.proofs.Sums.{sum-eq, sum-zero, sum-swap, sum-one, when-true, when-false, when-zero}
 use Rattle.lists.proofs.Ranks.{true-or-false}
+use Rattle.lists.proofs.Members.{kept-eq}
 use Rattle.answer.specs.declared.Answer.{Answer}
 use Rattle.answer.specs.Numbers.{divisions}
-use Rattle.answer.specs.Turns.{accepted, refuse}
-use Rattle.answer.proofs.Turns.{refuse-none, refuse-some, refuse-number}
+use Rattle.answer.specs.Turns.{accepted, refuse, turns}
+use Rattle.answer.proofs.Turns.{refuse-none, refuse-some, refuse-number, turns-none, turns-all, turns-refused, StoppedAt}
 use Rattle.division.specs.Limits.{sizeRefusal}
 use Rattle.division.specs.Shares.{shares}
-use Rattle.groups.specs.Turns.{turns}
 use Rattle.groups.specs.Groups.{among, Pots, weightsIn, isMember, alone, amount, amounts, refusal, groupsInTurn}
-use Rattle.groups.proofs.Turns.{turns-none, turns-all, turns-refused, StoppedAt}
-use Rattle.groups.proofs.Members.{sum-one, kept-eq, when-true, when-false, when-zero, listed-add-up, listed-none, total-alone, share-alone}
+use Rattle.groups.proofs.Members.{listed-add-up, listed-none, total-alone, share-alone}
 
 -- one group's division that is not refused
 module _ (p : Pots) (z : ℕ) (fine : refusal p z ≡ 0) where

@@ -1,9 +1,7 @@
 pub mod Storing
 pub mod Adding
-pub mod Turns
 pub mod Summing
 pub mod Members
-pub mod Sizes
 pub mod Laws
 pub mod Same
 pub mod Unique

@@ -1,63 +1,16 @@
--- Sums over positions of which few count, members taken out of a list, and divisions by weights that are listed.
+-- Divisions by weights that are listed, and by those of a list's members taken out.
 -- Assumes nothing.
-use mathlib.Core.Path.{_≡_, refl, sym, ap, ap₂, _∙_}
-use mathlib.Core.Logic.{⊎-elim, _≢_}
+use mathlib.Core.Path.{_≡_, sym, ap, _∙_}
 use mathlib.Core.Bool.{Bool, true, false}
-use mathlib.Core.List.{_++_}
-use Prim.Native.Nat.{ℕ, zero, suc, _≤_, _<_}
-use native.Mathlib.Nat.{le-step, lt-suc-self, not-suc-le-zero, ne-of-lt}
-use native.Mathlib.Omega.{arith}
+use Prim.Native.Nat.{ℕ, _<_}
 use lib.ListN.{length}
-use Rattle.lists.specs.Sums.{sumTo, at, total, when, count}
+use Rattle.lists.specs.Sums.{sumTo, at, total, count}
 use Rattle.lists.specs.Entries.{listed, kept}
-use Rattle.lists.proofs.Sums.{last-or-below, sum-zero}
-use Rattle.lists.proofs.Ranks.{true-or-false}
 use Rattle.lists.proofs.Entries.{length-listed, at-listed}
+use Rattle.lists.proofs.Members.{kept-eq}
 use Rattle.division.specs.Limits.{sizeRefusal}
 use Rattle.division.specs.Shares.{shares}
 use Rattle.division.proofs.Laws.{length-shares, shares-add-up, no-weight-no-share, shares-among, total-among, size-accepted}
-
--- a sum to which one position alone adds
-pub sum-one : (n : ℕ) (f : ℕ → ℕ) (k : ℕ) → k < n → ((i : ℕ) → i < n → i ≢ k → f i ≡ 0) → sumTo n f ≡ f k
-unfolding sumTo
-sum-one zero f k h none = absurd (not-suc-le-zero h)
-sum-one (suc n) f k h none =
-    ⊎-elim
-    (λ (e : k ≡ n).
-    let before : sumTo n f ≡ 0 = sum-zero n f (λ i b. none i (le-step b) (λ q. ne-of-lt b (q ∙ e))) in
-    let last : f k ≡ f n = ap f e in
-    omega arith)
-    (λ (b : k < n).
-    let last : f n ≡ 0 = none n (lt-suc-self n) (λ q. ne-of-lt b (sym q)) in
-    omega (arith, sum-one n f k b (λ i l. none i (le-step l))))
-    (last-or-below n k h)
-
--- what is taken out goes by the members' entries alone
-pub kept-eq : (n : ℕ) (member : ℕ → Bool) (f g : ℕ → ℕ) → ((i : ℕ) → i < n → member i ≡ true → f i ≡ g i)
-    → kept n member f ≡ kept n member g
-unfolding kept
-kept-eq zero member f g e = refl
-kept-eq (suc n) member f g e =
-    ap₂ _++_ (kept-eq n member f g (λ i b. e i (le-step b)))
-    (⊎-elim
-    (λ (m : member n ≡ true). rw (m, e n (lt-suc-self n) m))
-    (λ (m : member n ≡ false). rw m)
-    (true-or-false (member n)))
-
--- a weight where a test holds, else 0
-pub when-true : (t : Bool) (x : ℕ) → t ≡ true → when t x ≡ x
-when-true t x e = rw e
-
-pub when-false : (t : Bool) (x : ℕ) → t ≡ false → when t x ≡ 0
-when-false t x e = rw e
-
-pub when-zero : (t : Bool) (x : ℕ) → x ≡ 0 → when t x ≡ 0
-when-zero true x e = e
-when-zero false x e = refl
-
-pub when-le : (t : Bool) (x : ℕ) → when t x ≤ x
-when-le true x = omega arith
-when-le false x = omega arith
 
 -- a division that is not refused, by weights that are listed
 module _ (pot n : ℕ) (weight : ℕ → ℕ) (fine : sizeRefusal pot (total (listed n weight)) ≡ 0) where

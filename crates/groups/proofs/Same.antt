@@ -12,13 +12,12 @@ use Rattle.lists.proofs.Sums.{sum-eq}
 use Rattle.lists.proofs.Entries.{length-listed, at-listed, listed-eq, put-eq}
 use Rattle.answer.specs.declared.Answer.{Answer}
 use Rattle.answer.specs.Numbers.{divisions}
-use Rattle.answer.specs.Turns.{refuse}
+use Rattle.answer.specs.Turns.{refuse, turns}
+use Rattle.answer.proofs.Turns.{turns-eq}
 use Rattle.division.specs.Limits.{sizeRefusal}
 use Rattle.division.specs.Shares.{shares}
-use Rattle.groups.specs.Turns.{turns}
 use Rattle.groups.specs.Groups.{among, Pots, weightsIn, amount, amounts, refusal, groupsInTurn, potsOf, Grouped}
 use Rattle.groups.specs.Columns.{Written}
-use Rattle.groups.proofs.Turns.{turns-eq}
 
 -- what is written, where the values and the answer are the same
 pub same-written : {n : ℕ} {f : ℕ → ℕ} {answer : Answer} {before after : List ℕ} {r : Answer} → Written n f answer before after r

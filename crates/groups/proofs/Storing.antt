@@ -1,5 +1,5 @@
--- What a loop that stores f 0, f 1, .. one after the other has done so far, what a part of it that is lent holds, and how values made
--- in words of a function's own come to the lent words.
+-- What a loop that stores f 0, f 1, .. one after the other has done so far, and how values made in words of a function's own come
+-- to the lent words.
 -- Assumes nothing.
 use mathlib.Core.Path.{_≡_, sym, ap, ap₂, _∙_}
 use mathlib.Core.Logic.{_≢_}
@@ -7,12 +7,12 @@ use mathlib.Core.List.{List}
 use Prim.Native.Nat.{ℕ, _+_, _≤_, _<_}
 use native.Mathlib.Nat.{le-refl, le-antisymm}
 use native.Mathlib.Omega.{arith}
-use lib.ListN.{length, set, take, drop}
-use lib.Seq.{take-at, getD-take, length-take-le}
+use lib.ListN.{length, set, take}
+use lib.Seq.{getD-take, length-take-le}
 use borrow.Author.Tests.{eq-eqb, ne-eqb}
 use Rattle.lists.specs.Sums.{at}
-use Rattle.lists.specs.Entries.{listed, put}
-use Rattle.lists.proofs.Entries.{length-listed, length-put, put-none, put-suc, put-ahead, put-listed, put-eq}
+use Rattle.lists.specs.Entries.{put}
+use Rattle.lists.proofs.Entries.{length-put, put-none, put-suc, put-ahead, put-eq}
 use Rattle.answer.specs.declared.Answer.{Answer}
 use Rattle.groups.specs.Columns.{Written}
 use Rattle.groups.specs.Steps.{Made}
@@ -38,10 +38,6 @@ module _ {n : ℕ} {f : ℕ → ℕ} {before : List ℕ} {i : ℕ} {column : Lis
 
   pub stored-end : n ≤ i → column ≡ put n f before
   stored-end h = s .so-far ∙ ap (λ k. put k f before) (le-antisymm (s .passed) h)
-
--- what is stored, lent by itself
-pub take-put : (n : ℕ) (f : ℕ → ℕ) (l : List ℕ) → n ≤ length l → take n (put n f l) ≡ listed n f
-take-put n f l h = ap (take n) (put-listed n f l h) ∙ take-at (listed n f) (drop n l) n (length-listed n f)
 
 -- from values made in words of a function's own to the lent words
 module _ {n : ℕ} {f : ℕ → ℕ} {answer : Answer} {sums : List ℕ} {r : Answer} (m : Made n f answer sums r) where

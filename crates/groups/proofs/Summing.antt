@@ -17,13 +17,12 @@ use Rattle.lists.proofs.Entries.{length-listed, length-put, at-put}
 use Rattle.answer.specs.declared.Answer.{Answer}
 use Rattle.answer.specs.Numbers.{divisions}
 use Rattle.answer.specs.Turns.{accepted, refuse}
-use Rattle.answer.proofs.Turns.{refuse-none, refuse-number}
+use Rattle.answer.proofs.Turns.{refuse-none, refuse-number, turns-none, turns-stop}
 use Rattle.division.specs.Limits.{mostWeights, potLimit}
+use Rattle.division.proofs.Laws.{share-fits}
 use Rattle.groups.specs.Groups.{Pots, among, weightsIn, amount, amounts, refusal, groupsInTurn}
 use Rattle.groups.specs.Columns.{Addable, Added}
 use Rattle.groups.specs.Steps.{mostGroups, Summed, GoneThrough}
-use Rattle.groups.proofs.Adding.{share-fits}
-use Rattle.groups.proofs.Turns.{turns-none, turns-stop}
 
 pub length-weights : (p : Pots) (z : ℕ) → length (weightsIn p z) ≡ p .members
 unfolding weightsIn among

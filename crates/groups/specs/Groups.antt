@@ -9,10 +9,9 @@ use Rattle.lists.specs.Sums.{sumTo, at, total, when}
 use Rattle.lists.specs.Entries.{listed, kept}
 use Rattle.answer.specs.declared.Answer.{Answer}
 use Rattle.answer.specs.Numbers.{divisions}
-use Rattle.answer.specs.Turns.{refuse}
+use Rattle.answer.specs.Turns.{refuse, turns}
 use Rattle.division.specs.Limits.{sizeRefusal}
 use Rattle.division.specs.Shares.{shares}
-use Rattle.groups.specs.Turns.{turns}
 use Rattle.groups.specs.Columns.{Written}
 
 -- "divided among its owners by requirement", "among that zone's accounts by use": the weights of a group's members, and 0 for

@@ -1,4 +1,3 @@
-pub mod Turns
 pub mod Columns
 pub mod Groups
 pub mod Steps

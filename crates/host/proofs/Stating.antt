@@ -3,7 +3,7 @@
 use mathlib.Core.Path.{_≡_, refl, sym, ap, ap₂, _∙_}
 use mathlib.Core.Logic.{⊎-elim}
 use mathlib.Core.List.{List, [], _++_}
-use Prim.Native.Nat.{ℕ, _+_, _*_, _≤_, _<_}
+use Prim.Native.Nat.{ℕ, _+_, _≤_, _<_}
 use native.Mathlib.Nat.{le-trans, le-of-eq, zero-add}
 use native.Mathlib.Omega.{arith}
 use lib.ListN.{length, drop}
@@ -11,9 +11,7 @@ use borrow.Author.Tests.{lt-ltb, le-ltb}
 use Rattle.lists.proofs.Ranks.{lt-or-le}
 use Rattle.answer.specs.declared.Answer.{Answer}
 use Rattle.answer.specs.Numbers.{ROOM, head}
-use Rattle.answer.specs.Turns.{refuse}
 use Rattle.answer.proofs.Turns.{refuse-none, refuse-number}
-use Rattle.tables.specs.Judgement.{roomFor}
 use Rattle.text.specs.Places.{stored}
 use Rattle.text.proofs.Stores.{stored-is, stored-none}
 use Rattle.monthfile.proofs.Rooms.{room-short, room-enough}

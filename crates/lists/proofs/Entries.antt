@@ -7,8 +7,8 @@ use Prim.Native.Nat.{ℕ, zero, suc, _+_, _≤_, _<_}
 use native.Mathlib.Nat.{le-of-suc-le, le-step, not-suc-le-zero, lt-suc-self}
 use native.Mathlib.Numerals.{add-one}
 use native.Mathlib.Omega.{arith}
-use lib.ListN.{length, getD, set, drop, length-set, length-append, List·getD-append}
-use lib.Seq.{drop-cons, set-at, getD-at, append-snoc, ext-getD, getD-set-other, drop-at}
+use lib.ListN.{length, set, take, drop, length-set, length-append, List·getD-append}
+use lib.Seq.{drop-cons, set-at, getD-at, ext-getD, getD-set-other, take-at, drop-at}
 use Rattle.lists.specs.Sums.{sumTo, at, total}
 use Rattle.lists.specs.Entries.{listed, put}
 use Rattle.lists.proofs.Sums.{last-or-below, sum-eq}
@@ -81,6 +81,10 @@ pub at-put : (n : ℕ) (f : ℕ → ℕ) (l : List ℕ) → n ≤ length l → (
 at-put n f l h i b =
     let within : i < length (listed n f) = rw length-listed b in
     ap (λ k. at k i) (put-listed n f l h) ∙ List·getD-append (listed n f) (drop n l) 0 i within ∙ at-listed n f i b
+
+-- what is stored, by itself
+pub take-put : (n : ℕ) (f : ℕ → ℕ) (l : List ℕ) → n ≤ length l → take n (put n f l) ≡ listed n f
+take-put n f l h = ap (take n) (put-listed n f l h) ∙ take-at (listed n f) (drop n l) n (length-listed n f)
 
 -- storing over what was stored
 pub put-over : (n : ℕ) (f g : ℕ → ℕ) (l : List ℕ) → n ≤ length l → put n g (put n f l) ≡ put n g l

@@ -2,4 +2,5 @@ pub mod Sums
 pub mod Entries
 pub mod Ranks
 pub mod Members
+pub mod Search
 pub mod Unique

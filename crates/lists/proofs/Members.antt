@@ -1,21 +1,20 @@
 -- Laws of a list's members taken out: a member's place among them is how many members stand before it, and a sum over the
 -- places is a sum over the members. Each goes by induction on how many positions there are, adding the last one.
 -- Assumes nothing.
-use mathlib.Core.Path.{_≡_, refl, sym, ap, ap₂, _∙_, subst}
-use mathlib.Core.Logic.{_⊎_, inl, inr, ⊎-elim}
-use mathlib.Core.Bool.{Bool, true, false, cond, true≢false}
-use mathlib.Core.List.{List, [], _∷_, _++_, append-nil}
+use mathlib.Core.Path.{_≡_, refl, sym, ap, ap₂, _∙_}
+use mathlib.Core.Logic.{⊎-elim}
+use mathlib.Core.Bool.{Bool, true, false, cond}
+use mathlib.Core.List.{[], _∷_, _++_}
 use Prim.Native.Nat.{ℕ, zero, suc, _+_, _≤_, _<_}
-use native.Mathlib.Nat.{not-suc-le-zero, le-step, lt-suc-self, le-trans, add-zero, le-of-suc-le-suc}
-use native.Mathlib.Numerals.{add-one}
+use native.Mathlib.Nat.{not-suc-le-zero, le-step, lt-suc-self, add-zero}
 use native.Mathlib.Omega.{arith}
 use lib.Dec.{ltb}
 use lib.ListN.{length, length-append, List·getD-append}
 use lib.Seq.{getD-at}
 use borrow.Author.Tests.{lt-ltb, le-ltb}
-use Rattle.lists.specs.Sums.{sumTo, at, total, bit, when, count}
+use Rattle.lists.specs.Sums.{sumTo, at, bit, when, count}
 use Rattle.lists.specs.Entries.{kept}
-use Rattle.lists.proofs.Sums.{last-or-below, sum-suc, sum-eq}
+use Rattle.lists.proofs.Sums.{last-or-below, sum-suc}
 use Rattle.lists.proofs.Ranks.{lt-or-le, true-or-false}
 
 -- a member's place is below the place of every later position
@@ -69,6 +68,18 @@ at-kept (suc n) member f i h m =
     let within : count i member < length (kept n member f) = rw length-kept (place-below n member i b m) in
     List·getD-append (kept n member f) (cond (member n) (f n ∷ []) []) 0 (count i member) within ∙ at-kept n member f i b m)
     (last-or-below n i h)
+
+-- what is taken out goes by the members' entries alone
+pub kept-eq : (n : ℕ) (member : ℕ → Bool) (f g : ℕ → ℕ) → ((i : ℕ) → i < n → member i ≡ true → f i ≡ g i)
+    → kept n member f ≡ kept n member g
+unfolding kept
+kept-eq zero member f g e = refl
+kept-eq (suc n) member f g e =
+    ap₂ _++_ (kept-eq n member f g (λ i b. e i (le-step b)))
+    (⊎-elim
+    (λ (m : member n ≡ true). rw (m, e n (lt-suc-self n) m))
+    (λ (m : member n ≡ false). rw m)
+    (true-or-false (member n)))
 
 -- a sum over the members' places is a sum over the members
 pub sum-kept : (n : ℕ) (member : ℕ → Bool) (g : ℕ → ℕ) → sumTo (count n member) g ≡ sumTo n (λ i. when (member i) (g (count i member)))

@@ -1,17 +1,16 @@
 -- In a strict order of the positions below n, exactly k of them have a rank below k. By induction on n: the last position
 -- has some rank R among the others; it moves those behind it up by one and leaves those before it.
 -- Assumes nothing.
-use mathlib.Core.Path.{_≡_, refl, sym, ap, ap₂, _∙_, subst}
+use mathlib.Core.Path.{_≡_, refl, sym, ap, _∙_}
 use mathlib.Core.Logic.{_⊎_, inl, inr, ⊎-elim, _≢_}
 use mathlib.Core.Bool.{Bool, true, false, not, true≢false, _&&_, _||_}
-use Prim.Native.Nat.{ℕ, zero, suc, _+_, _-_, _*_, _≤_, _<_, min}
-use native.Mathlib.Nat.{le-step, lt-suc-self, le-refl, ne-of-lt}
+use Prim.Native.Nat.{ℕ, zero, suc, _+_, _≤_, _<_, min}
+use native.Mathlib.Nat.{le-refl, ne-of-lt}
 use native.Mathlib.Omega.{arith}
-use native.Mathlib.Decide.{decLt}
 use lib.Dec.{ltb, eqb}
-use borrow.Author.Tests.{lt-ltb, le-ltb, ltb-true, ltb-false, eq-eqb, ne-eqb, eqb-true}
+use borrow.Author.Tests.{lt-ltb, le-ltb, ltb-true, ltb-false, eq-eqb, ne-eqb, eqb-true, eqb-false}
 use Rattle.lists.specs.Sums.{sumTo, bit, count, rank, largestFirst}
-use Rattle.lists.proofs.Sums.{sum-eq, sum-zero, count-implied, count-more, last-or-below, count-le}
+use Rattle.lists.proofs.Sums.{sum-eq, sum-zero, count-implied, count-more, count-le}
 
 -- an order of positions in which none stands before itself, and of two one stands before the other
 pub record Ordered (before : ℕ → ℕ → Bool) : Type 0 where
@@ -25,6 +24,9 @@ true-or-false false = inr refl
 
 pub lt-or-le : (a b : ℕ) → (a < b) ⊎ (b ≤ a)
 lt-or-le a b = ⊎-elim (λ e. inl (ltb-true a b e)) (λ e. inr (ltb-false a b e)) (true-or-false (ltb a b))
+
+pub equal-or-not : (a b : ℕ) → (a ≡ b) ⊎ (a ≢ b)
+equal-or-not a b = ⊎-elim (λ e. inl (eqb-true a b e)) (λ e. inr (eqb-false a b e)) (true-or-false (eqb a b))
 
 -- two tests that hold at the same time are equal
 pub same-test : (s t : Bool) → (s ≡ true → t ≡ true) → (s ≡ false → t ≡ false) → s ≡ t

@@ -1,14 +1,13 @@
--- Laws of sums and counts over positions. Each goes by induction on how many positions there are, adding the last one.
+-- Laws of sums, counts and tests over positions. Each goes by induction on how many positions there are, adding the last one.
 -- Assumes nothing.
 use mathlib.Core.Path.{_≡_, refl, sym, ap, ap₂, _∙_, subst}
 use mathlib.Core.Logic.{_⊎_, inl, inr, ⊎-elim, _≢_}
-use mathlib.Core.Bool.{Bool, true, false, true≢false, _&&_, _||_}
-use Prim.Native.Nat.{ℕ, zero, suc, _+_, _*_, _≤_, _<_, min}
-use native.Mathlib.Nat.{eq-or-lt-of-le, le-of-suc-le-suc, not-suc-le-zero, mul-add, mul-zero, le-step, lt-suc-self, zero-mul, add-mul, suc-mul, le-refl}
+use mathlib.Core.Bool.{Bool, true, false, true≢false, _&&_, _||_, and-eq-true-iff}
+use Prim.Native.Nat.{ℕ, zero, suc, _+_, _*_, _≤_, _<_}
+use native.Mathlib.Nat.{eq-or-lt-of-le, le-of-suc-le-suc, not-suc-le-zero, mul-add, mul-zero, le-step, lt-suc-self, zero-mul, suc-mul, le-refl, le-of-eq, ne-of-lt, ne-of-gt}
 use native.Mathlib.Numerals.{add-one}
 use native.Mathlib.Omega.{arith}
-use lib.Dec.{ltb}
-use Rattle.lists.specs.Sums.{sumTo, bit, count, every}
+use Rattle.lists.specs.Sums.{sumTo, bit, when, count, every}
 
 -- a position below n + 1 is n or below n
 pub last-or-below : (n i : ℕ) → i < suc n → (i ≡ n) ⊎ (i < n)
@@ -62,6 +61,33 @@ le-sum (suc n) f i h =
     (λ (b : i < n). omega (arith, le-sum n f i b))
     (last-or-below n i h)
 
+-- a sum over fewer positions is at most one over more
+pub sum-within : (f : ℕ → ℕ) (m n : ℕ) → m ≤ n → sumTo m f ≤ sumTo n f
+unfolding sumTo
+sum-within f m zero h = le-of-eq (ap (λ k. sumTo k f) (let e : m ≡ 0 = omega arith in e))
+sum-within f m (suc n) h =
+    ⊎-elim
+    (λ (e : m ≡ suc n). le-of-eq (ap (λ k. sumTo k f) e))
+    (λ (b : m < suc n). omega (arith, sum-within f m n (le-of-suc-le-suc b)))
+    (eq-or-lt-of-le h)
+
+-- sums whose entries agree except at one position
+pub sum-but-one : (n : ℕ) (f g : ℕ → ℕ) (k : ℕ) → k < n → ((i : ℕ) → i < n → i ≢ k → f i ≡ g i) → sumTo n f + g k ≡ sumTo n g + f k
+unfolding sumTo
+sum-but-one zero f g k h e = absurd (not-suc-le-zero h)
+sum-but-one (suc n) f g k h e =
+    ⊎-elim
+    (λ (q : k ≡ n).
+    let others : sumTo n f ≡ sumTo n g = sum-eq n f g (λ i b. e i (le-step b) (ne-of-lt (rw q b))) in
+    rw q (omega arith))
+    (λ (b : k < n).
+    omega (arith, sum-but-one n f g k b (λ i c. e i (le-step c)), e n (lt-suc-self n) (ne-of-gt b)))
+    (last-or-below n k h)
+
+-- a sum to which one position alone adds
+pub sum-one : (n : ℕ) (f : ℕ → ℕ) (k : ℕ) → k < n → ((i : ℕ) → i < n → i ≢ k → f i ≡ 0) → sumTo n f ≡ f k
+sum-one n f k h none = omega (arith, sum-but-one n f (λ i. 0) k h none, sum-zero n (λ i. 0) (λ i b. refl))
+
 -- sums over pairs of positions may be taken in either order
 pub sum-swap : (n m : ℕ) (f : ℕ → ℕ → ℕ) → sumTo n (λ i. sumTo m (f i)) ≡ sumTo m (λ j. sumTo n (λ i. f i j))
 unfolding sumTo
@@ -89,6 +115,21 @@ sum-tight n f g e q k h =
     (λ (less : f k < g k). let l : sumTo n f < sumTo n g = sum-lt n f g e k h less in absurd (omega arith))
     (eq-or-lt-of-le (e k h))
 
+-- a number where a test holds, else 0
+pub when-true : (t : Bool) (x : ℕ) → t ≡ true → when t x ≡ x
+when-true t x e = rw e
+
+pub when-false : (t : Bool) (x : ℕ) → t ≡ false → when t x ≡ 0
+when-false t x e = rw e
+
+pub when-zero : (t : Bool) (x : ℕ) → x ≡ 0 → when t x ≡ 0
+when-zero true x e = e
+when-zero false x e = refl
+
+pub when-le : (t : Bool) (x : ℕ) → when t x ≤ x
+when-le true x = omega arith
+when-le false x = omega arith
+
 pub bit-le : (t : Bool) → bit t ≤ 1
 bit-le true = le-refl 1
 bit-le false = omega arith
@@ -112,16 +153,12 @@ count-more n s t h k b sk tk =
     sum-lt n (λ i. bit (s i)) (λ i. bit (t i)) (λ i b. implied (s i) (t i) (h i b)) k b
     (rw (sk, tk) (le-refl 1))
 
-both-left : (s t : Bool) → (s && t) ≡ true → s ≡ true
-both-left true t e = refl
-both-left false t e = e
+-- of two tests that hold, each
+pub both-left : (s t : Bool) → (s && t) ≡ true → s ≡ true
+both-left s t e = and-eq-true-iff s t .0 e .0
 
-both-right : (s t : Bool) → (s && t) ≡ true → t ≡ true
-both-right true t e = e
-both-right false t e = absurd (true≢false (sym e))
-
-both-true : (s t : Bool) → s ≡ true → t ≡ true → (s && t) ≡ true
-both-true s t e f = rw (e, f)
+pub both-right : (s t : Bool) → (s && t) ≡ true → t ≡ true
+both-right s t e = and-eq-true-iff s t .0 e .1
 
 pub every-at : (n : ℕ) (t : ℕ → Bool) → every n t ≡ true → (i : ℕ) → i < n → t i ≡ true
 unfolding every
@@ -135,9 +172,14 @@ every-at (suc n) t e i h =
 pub every-from : (n : ℕ) (t : ℕ → Bool) → ((i : ℕ) → i < n → t i ≡ true) → every n t ≡ true
 unfolding every
 every-from zero t h = refl
-every-from (suc n) t h = both-true (every n t) (t n) (every-from n t (λ i b. h i (le-step b))) (h n (lt-suc-self n))
+every-from (suc n) t h = and-eq-true-iff (every n t) (t n) .1 (every-from n t (λ i b. h i (le-step b)), h n (lt-suc-self n))
 
 -- two tests of which neither holds
 pub neither : (s t : Bool) → (s || t) ≡ false → (s ≡ false) × (t ≡ false)
 neither true t e = (e, absurd (true≢false e))
 neither false t e = (refl, e)
+
+-- two tests of which one holds
+pub either : (s t : Bool) → (s || t) ≡ true → (s ≡ true) ⊎ (t ≡ true)
+either true t e = inl refl
+either false t e = inr e

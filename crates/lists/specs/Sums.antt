@@ -30,6 +30,11 @@ unfoldable pub every : ℕ → (ℕ → Bool) → Bool
 every zero t = true
 every (suc n) t = every n t && t n
 
+-- whether a test holds at some position below n
+unfoldable pub any : ℕ → (ℕ → Bool) → Bool
+any zero t = false
+any (suc n) t = any n t || t n
+
 -- the place of position i in an order of the positions below n: how many stand before it (`before j i`: j stands before i)
 abbrev pub rank : ℕ → (ℕ → ℕ → Bool) → ℕ → ℕ
 rank n before i = count n (λ j. before j i)

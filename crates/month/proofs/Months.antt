@@ -3,7 +3,7 @@
 -- Assumes nothing.
 use mathlib.Core.Path.{_≡_, refl, sym, ap}
 use mathlib.Core.Logic.{_⊎_, inl, inr, ⊎-elim}
-use mathlib.Core.Bool.{Bool, true, false, cond, _&&_, _||_, and-eq-true-iff}
+use mathlib.Core.Bool.{Bool, true, false, cond, _&&_, and-eq-true-iff}
 use Prim.Native.Nat.{ℕ, zero, suc, _+_, _-_, _≤_, _<_}
 use native.Mathlib.Nat.{mul-le-mul-left, add-sub-cancel}
 use native.Mathlib.Numerals.{add-one}
@@ -11,7 +11,7 @@ use native.Mathlib.Omega.{arith}
 use lib.Dec.{leb, eqb}
 use borrow.Author.Tests.{leb-true, eqb-true}
 use Rattle.lists.specs.Sums.{sumTo, at, every}
-use Rattle.lists.proofs.Sums.{every-at}
+use Rattle.lists.proofs.Sums.{every-at, either}
 use Rattle.month.specs.declared.Month.{Month}
 use Rattle.month.specs.declared.Made.the-variants.{Good, Bad}
 use Rattle.month.specs.Limits.{mostDays}
@@ -34,10 +34,6 @@ not-picked false a e = refl
 pub made-bad : (month days : ℕ) → madeOf month days ≡ Bad → isMonth month days ≡ false
 unfolding madeOf
 made-bad month days e = not-picked (isMonth month days) (record { number = month; days = days }) e
-
-either : (s t : Bool) → (s || t) ≡ true → (s ≡ true) ⊎ (t ≡ true)
-either true t e = inl refl
-either false t e = inr e
 
 -- the longest of the lengths
 lengths-within : (i : ℕ) → i < months → at lengths i ≤ mostDays

@@ -3,7 +3,7 @@
 -- Assumes nothing.
 use mathlib.Core.Path.{_≡_, refl, sym, ap, ap₂, _∙_, subst}
 use mathlib.Core.Logic.{_⊎_, inl, inr, ⊎-elim, _≢_}
-use mathlib.Core.Bool.{Bool, true, false, cond, true≢false, _&&_}
+use mathlib.Core.Bool.{Bool, true, false, cond, _&&_}
 use mathlib.Core.List.{List, [], _∷_, _++_, append-assoc, append-nil}
 use Prim.Native.Nat.{ℕ, zero, suc, _+_, _-_, _*_, _≤_, _<_}
 use native.Mathlib.Omega.{arith}
@@ -12,6 +12,7 @@ use lib.ListN.{length, take, drop, length-append}
 use borrow.Author.Tests.{lt-ltb, le-ltb, eq-eqb, ne-eqb, ltb-true, ltb-false, eqb-true, eqb-false}
 use Rattle.lists.specs.Sums.{at}
 use Rattle.lists.proofs.Ranks.{true-or-false, lt-or-le}
+use Rattle.lists.proofs.Sums.{both-left, both-right}
 use Rattle.answer.specs.declared.Answer.{Answer}
 use Rattle.answer.specs.Numbers.{COUNT}
 use Rattle.answer.specs.Turns.{refuse}
@@ -153,14 +154,6 @@ differs key (kind ∷ kinds) last = differ key (kind .key) && differs key kinds 
 unfoldable pub allDiffer : List Kind → List ℕ → Bool
 allDiffer [] last = true
 allDiffer (kind ∷ kinds) last = differs (kind .key) kinds last && allDiffer kinds last
-
-both-left : (s t : Bool) → (s && t) ≡ true → s ≡ true
-both-left true t e = refl
-both-left false t e = e
-
-both-right : (s t : Bool) → (s && t) ≡ true → t ≡ true
-both-right true t e = e
-both-right false t e = absurd (true≢false (sym e))
 
 -- no row of a kind stands where rows of another do, or where later kinds and the last line do
 rows-apart : (key : List ℕ) (width : ℕ) (kind : Kind) (n : ℕ) (words rest : List ℕ) → differ key (kind .key) ≡ true → line key width rest ≡ missing

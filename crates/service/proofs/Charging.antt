@@ -13,13 +13,12 @@ use Rattle.lists.proofs.Sums.{last-or-below, sum-none, sum-suc, sum-le, sum-con
 use Rattle.answer.specs.declared.Answer.{Answer}
 use Rattle.answer.specs.Numbers.{divisions}
 use Rattle.answer.specs.Turns.{accepted, refuse}
-use Rattle.answer.proofs.Turns.{then-first, then-second, then-none, refuse-none, refuse-number}
+use Rattle.answer.proofs.Turns.{then-first, then-second, then-none, refuse-none, refuse-number, turns-none, turns-stop}
 use Rattle.division.specs.Limits.{potLimit, sizeRefusal}
+use Rattle.division.proofs.Laws.{share-fits}
 use Rattle.groups.specs.Groups.{weightsIn, refusal}
 use Rattle.groups.specs.Columns.{Added}
 use Rattle.groups.specs.Steps.{Summed}
-use Rattle.groups.proofs.Adding.{share-fits}
-use Rattle.groups.proofs.Turns.{turns-none, turns-stop}
 use Rattle.groups.proofs.Summing.{summed-more}
 use Rattle.service.specs.Service.{Service, zoneUse, nonzoneUse, uses, zoneSide, nonzoneSide, zoneSides}
 use Rattle.service.specs.Turn.{splitRefusal, shareRefusal, splitPlace, sharePlace, zoneTurn}

@@ -11,16 +11,15 @@ use lib.Dec.{ltb, lit<}
 use borrow.Author.Tests.{ltb-false}
 use Rattle.lists.specs.Sums.{sumTo, at, total, when}
 use Rattle.lists.specs.Entries.{listed}
-use Rattle.lists.proofs.Sums.{sum-eq, sum-zero, sum-le}
+use Rattle.lists.proofs.Sums.{sum-eq, sum-zero, sum-le, when-true, when-zero, when-le}
 use Rattle.lists.proofs.Ranks.{true-or-false}
 use Rattle.lists.proofs.Entries.{total-listed, listed-at}
 use Rattle.answer.specs.Numbers.{BIG, BASE}
 use Rattle.division.specs.Limits.{potLimit, weightLimit}
 use Rattle.division.specs.Shares.{shares}
-use Rattle.division.proofs.Laws.{length-shares, shares-add-up, share-within, no-weight-no-share, size-accepted}
+use Rattle.division.proofs.Laws.{length-shares, shares-add-up, no-weight-no-share, size-accepted, never-big, never-base, share-fits}
 use Rattle.groups.specs.Groups.{among, weightsIn, isMember, refusal}
-use Rattle.groups.proofs.Members.{when-true, when-zero, when-le, listed-add-up, listed-none}
-use Rattle.groups.proofs.Sizes.{never-big, never-base}
+use Rattle.groups.proofs.Members.{listed-add-up, listed-none}
 use Rattle.service.specs.Service.{Service, zoneUse, nonzoneUse, uses, zoneSide, nonzoneSide, zoneSides, nonzonePot, nonzoneParts, nonzoneShare}
 use Rattle.service.specs.Turn.{splitRefusal, shareRefusal, nonzoneRefusal}
 
@@ -62,8 +61,7 @@ module _ (s : Service) (z : ℕ) (fine : splitRefusal s z ≡ 0) where
 
   zone-side-fits : zoneSide s z ≤ potLimit
   unfolding zoneSide splitRefusal
-  zone-side-fits =
-      le-trans (share-within (s .pot z) (uses s) base 0) (size-accepted (s .pot z) (total (uses s)) fine .0)
+  zone-side-fits = share-fits (s .pot z) (uses s) fine 0
 
   zone-weights-fit : total (weightsIn (zoneSides s) z) ≤ weightLimit
   unfolding splitRefusal weightsIn among zoneUse

@@ -1,4 +1,3 @@
-pub mod Sums
 pub mod Charging
 pub mod Serving
 pub mod Laws

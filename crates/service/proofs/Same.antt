@@ -10,11 +10,10 @@ use Rattle.lists.proofs.Sums.{sum-eq}
 use Rattle.lists.proofs.Entries.{length-listed, at-listed, listed-eq}
 use Rattle.answer.specs.declared.Answer.{Answer}
 use Rattle.answer.specs.Numbers.{divisions}
-use Rattle.answer.specs.Turns.{refuse, _then_}
+use Rattle.answer.specs.Turns.{refuse, _then_, turns}
+use Rattle.answer.proofs.Turns.{turns-eq}
 use Rattle.division.specs.Limits.{sizeRefusal}
 use Rattle.division.specs.Shares.{shares}
-use Rattle.groups.specs.Turns.{turns}
-use Rattle.groups.proofs.Turns.{turns-eq}
 use Rattle.groups.proofs.Same as groups
 use Rattle.service.specs.Service.{
   Service,

@@ -12,11 +12,10 @@ use Rattle.lists.specs.Entries.{listed, put}
 use Rattle.lists.proofs.Entries.{listed-at, length-listed, length-put, at-put}
 use Rattle.answer.specs.declared.Answer.{Answer}
 use Rattle.answer.specs.Numbers.{divisions}
-use Rattle.answer.specs.Turns.{refuse}
+use Rattle.answer.specs.Turns.{refuse, turns}
 use Rattle.answer.proofs.Turns.{then-first, then-second, refuse-number}
 use Rattle.division.specs.Limits.{sizeRefusal}
 use Rattle.division.specs.Shares.{shares}
-use Rattle.groups.specs.Turns.{turns}
 use Rattle.groups.specs.Groups.{amounts}
 use Rattle.groups.specs.Columns.{Addable, Added}
 use Rattle.groups.specs.Steps.{mostGroups}

@@ -5,10 +5,8 @@ use mathlib.Core.Logic.{⊎-elim, _≢_}
 use Prim.Native.Nat.{ℕ, _<_}
 use Rattle.answer.specs.declared.Answer.{Answer}
 use Rattle.answer.specs.Numbers.{BIG, BASE, divisions}
-use Rattle.answer.specs.Turns.{accepted, refuse}
-use Rattle.answer.proofs.Turns.{zero-or-not, then-first, then-second, then-none, refuse-none, refuse-some, refuse-number}
-use Rattle.groups.specs.Turns.{turns}
-use Rattle.groups.proofs.Turns.{turns-none, turns-all, turns-refused, StoppedAt}
+use Rattle.answer.specs.Turns.{accepted, refuse, turns}
+use Rattle.answer.proofs.Turns.{zero-or-not, then-first, then-second, then-none, refuse-none, refuse-some, refuse-number, turns-none, turns-all, turns-refused, StoppedAt}
 use Rattle.service.specs.Service.{Service}
 use Rattle.service.specs.Turn.{
   splitRefusal,

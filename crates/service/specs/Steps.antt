@@ -7,10 +7,9 @@ use lib.ListN.{length}
 use Rattle.lists.specs.Sums.{sumTo, at, total}
 use Rattle.answer.specs.declared.Answer.{Answer}
 use Rattle.answer.specs.Numbers.{divisions}
-use Rattle.answer.specs.Turns.{refuse, _then_}
+use Rattle.answer.specs.Turns.{refuse, _then_, turns}
 use Rattle.division.specs.Limits.{sizeRefusal}
 use Rattle.division.specs.Shares.{shares}
-use Rattle.groups.specs.Turns.{turns}
 use Rattle.groups.specs.Columns.{Added}
 use Rattle.groups.specs.Steps.{Together, Summed, Made}
 use Rattle.service.specs.Service.{Service, nonzoneSide, zoneSides, serviceCharge}

@@ -7,9 +7,8 @@ use Prim.Native.Nat.{ℕ, _+_, _*_, _<_}
 use Rattle.lists.specs.Sums.{total}
 use Rattle.answer.specs.declared.Answer.{Answer}
 use Rattle.answer.specs.Numbers.{BIG, BASE, divisions}
-use Rattle.answer.specs.Turns.{refuse, _then_}
+use Rattle.answer.specs.Turns.{refuse, _then_, turns}
 use Rattle.division.specs.Limits.{sizeRefusal}
-use Rattle.groups.specs.Turns.{turns}
 use Rattle.groups.specs.Columns.{Written}
 use Rattle.groups.specs.Groups.{refusal}
 use Rattle.service.specs.Service.{Service, uses, zoneSides, nonzonePot, nonzoneParts, serviceCharge}

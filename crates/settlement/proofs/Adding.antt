@@ -9,9 +9,7 @@ use native.Mathlib.Numerals.{add-one}
 use native.Mathlib.Omega.{arith}
 use lib.Dec.{eqb}
 use Rattle.lists.specs.Sums.{sumTo, at, when}
-use Rattle.lists.proofs.Sums.{sum-none, sum-suc, sum-le}
-use Rattle.groups.proofs.Members.{when-le}
-use Rattle.service.proofs.Sums.{sum-within}
+use Rattle.lists.proofs.Sums.{sum-none, sum-suc, sum-le, when-le, sum-within}
 use Rattle.tables.specs.declared.Table.{Table}
 use Rattle.tables.specs.Shape.{rows}
 use Rattle.tables.specs.Columns.{entry}

@@ -12,7 +12,6 @@ use borrow.Author.Tests.{eq-eqb, ne-eqb}
 use Rattle.lists.specs.Sums.{sumTo, when}
 use Rattle.lists.proofs.Sums.{sum-eq, sum-add, sum-swap, sum-zero}
 use Rattle.answer.proofs.Turns.{zero-or-not}
-use Rattle.groups.proofs.Members.{when-zero}
 use Rattle.tables.specs.declared.Table.the-variants.{Zones, Owners, Units, Accounts}
 use Rattle.tables.specs.Shape.{Tables}
 use Rattle.tables.specs.Columns.{zoneNumber, ownerNumber, unitOwner, unitZone, accountZone}

@@ -3,19 +3,17 @@
 use mathlib.Core.Path.{_≡_, refl}
 use mathlib.Core.List.{List, [], _∷_}
 use Prim.Native.Nat.{ℕ}
-use Rattle.lists.specs.Sums.{sumTo, largestFirst}
+use Rattle.lists.specs.Sums.{sumTo, largestFirst, any}
 use Rattle.lists.specs.Entries.{listed, put}
-use Rattle.answer.specs.Turns.{accepted, refuse, _then_, first}
+use Rattle.answer.specs.Turns.{accepted, refuse, _then_, first, turns}
 use Rattle.division.specs.Limits.{sizeRefusal}
 use Rattle.division.specs.Shares.{quotient, remainder, leftover, comesBefore, getsCent, share, shares}
-use Rattle.groups.specs.Turns.{turns}
 use Rattle.groups.specs.Groups as groups
 use Rattle.service.specs.Service as service
 use Rattle.service.specs.Turn as turn
 use Rattle.month.specs.Months.{isMonth, through, twelfth}
 use Rattle.month.specs.Quantities as month
 use Rattle.tables.specs.Limits.{blackStart, reactive}
-use Rattle.tables.specs.Search.{any}
 use Rattle.tables.specs.Rows as rows
 use Rattle.tables.specs.Judgement as judgement
 use Rattle.settlement.specs.Input.{Input, inputOf}

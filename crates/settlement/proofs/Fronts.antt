@@ -6,8 +6,7 @@ use Prim.Native.Nat.{ℕ, _≤_, _<_}
 use native.Mathlib.Nat.{le-trans, le-of-eq}
 use lib.ListN.{length, take}
 use Rattle.lists.specs.Entries.{listed, put}
-use Rattle.lists.proofs.Entries.{length-listed, put-long}
-use Rattle.groups.proofs.Storing.{take-put}
+use Rattle.lists.proofs.Entries.{length-listed, put-long, take-put}
 
 module _ (n : ℕ) (f : ℕ → ℕ) (before : List ℕ) {column : List ℕ} {count : ℕ} (stored : column ≡ put n f before) (long : n ≤ length before) (counted : count ≡ n) where
   pub front : take count column ≡ listed n f

@@ -9,9 +9,8 @@ use native.Mathlib.Omega.{arith}
 use lib.Dec.{eqb}
 use borrow.Author.Tests.{eq-eqb, ne-eqb, eqb-true}
 use Rattle.lists.specs.Sums.{sumTo, when}
-use Rattle.lists.proofs.Sums.{sum-zero}
+use Rattle.lists.proofs.Sums.{sum-zero, sum-one}
 use Rattle.lists.proofs.Ranks.{true-or-false, lt-or-le}
-use Rattle.groups.proofs.Members.{sum-one}
 use Rattle.month.specs.Limits.{mostLoad}
 
 -- the numbers of n rows strictly ascend

@@ -12,11 +12,12 @@ use lib.Dec.{eqb}
 use borrow.Author.Tests.{eq-eqb, ne-eqb, eqb-true, eqb-false}
 use Rattle.lists.specs.Sums.{sumTo, at, when, count}
 use Rattle.lists.specs.Entries.{kept}
-use Rattle.lists.proofs.Sums.{sum-eq}
+use Rattle.lists.proofs.Sums.{sum-eq, when-true, when-zero, when-false}
 use Rattle.lists.proofs.Ranks.{true-or-false}
+use Rattle.lists.proofs.Members.{kept-eq}
 use Rattle.division.specs.Shares.{shares}
 use Rattle.groups.specs.Groups.{Pots, alone, amount, isMember}
-use Rattle.groups.proofs.Members.{kept-eq, when-true, when-zero, when-false, share-alone}
+use Rattle.groups.proofs.Members.{share-alone}
 use Rattle.groups.proofs.Laws.{from-own-group, amount-alone}
 use Rattle.service.specs.Service as service
 use Rattle.service.specs.Turn as turn

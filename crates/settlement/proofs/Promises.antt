@@ -10,13 +10,13 @@ use lib.Dec.{eqb}
 use borrow.Author.Tests.{eq-eqb, ne-eqb, eqb-true}
 use Rattle.lists.specs.Sums.{sumTo, at, when, count}
 use Rattle.lists.specs.Entries.{kept}
-use Rattle.lists.proofs.Sums.{sum-eq, sum-zero}
+use Rattle.lists.proofs.Sums.{sum-eq, sum-zero, when-false}
 use Rattle.lists.proofs.Ranks.{true-or-false}
 use Rattle.answer.specs.declared.Answer.{Answer}
 use Rattle.answer.specs.Numbers.{BIG, BASE}
 use Rattle.division.specs.Shares.{shares}
 use Rattle.groups.specs.Groups.{amount, amounts, alone}
-use Rattle.groups.proofs.Members.{when-false, listed-add-up}
+use Rattle.groups.proofs.Members.{listed-add-up}
 use Rattle.groups.proofs.Laws.{pots-divided, pot-divided, members-have-all, amount-alone}
 use Rattle.service.specs.Service.{zoneSide, nonzoneSide, nonzonePot, zoneShare, nonzoneShare}
 use Rattle.service.specs.Turn.{splitRefusal, shareRefusal}

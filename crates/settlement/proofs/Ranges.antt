@@ -11,7 +11,6 @@ use lib.Dec.{eqb}
 use Rattle.lists.specs.Sums.{sumTo, when}
 use Rattle.lists.proofs.Sums.{sum-le, sum-const}
 use Rattle.lists.proofs.Ranks.{true-or-false}
-use Rattle.groups.proofs.Members.{when-le}
 use Rattle.tables.specs.declared.Table.{Table}
 use Rattle.tables.specs.declared.Table.the-variants.{Zones, Owners, Units, Accounts, Loads, Reservations}
 use Rattle.tables.specs.Shape.{rows, width, limit, Tables, wordsOf}

@@ -12,10 +12,9 @@ use lib.ListN.{length, take}
 use lib.Seq.{ext-getD, getD-take, length-take-le}
 use Rattle.lists.specs.Sums.{sumTo, at, total, when}
 use Rattle.lists.specs.Entries.{listed, put}
-use Rattle.lists.proofs.Sums.{sum-eq, sum-le}
+use Rattle.lists.proofs.Sums.{sum-eq, sum-le, when-le}
 use Rattle.lists.proofs.Entries.{length-listed, at-listed, total-listed, put-eq, put-long, at-put}
 use Rattle.answer.specs.declared.Answer.{Answer}
-use Rattle.groups.proofs.Members.{when-le}
 use Rattle.service.specs.Service.{Service, serviceOf}
 use Rattle.service.specs.Turn.{Served}
 use Rattle.service.specs.Steps.{Lent}

@@ -1,20 +1,18 @@
 -- Case S of the paper whole: the file's bytes, and the statement's, computed from the definitions.
 -- Assumes nothing.
-use mathlib.Core.Path.{_≡_, refl, ap, _∙_}
+use mathlib.Core.Path.{_≡_, refl}
 use mathlib.Core.List.{List}
 use Prim.Native.Nat.{ℕ}
-use Rattle.lists.specs.Sums.{sumTo, largestFirst}
+use Rattle.lists.specs.Sums.{sumTo, largestFirst, any}
 use Rattle.lists.specs.Entries.{listed, put}
-use Rattle.answer.specs.Turns.{accepted, refuse, _then_, first}
+use Rattle.answer.specs.Turns.{refuse, _then_, turns, first}
 use Rattle.division.specs.Limits.{sizeRefusal}
 use Rattle.division.specs.Shares.{quotient, remainder, leftover, comesBefore, getsCent, share, shares}
-use Rattle.groups.specs.Turns.{turns}
 use Rattle.groups.specs.Groups as groups
 use Rattle.service.specs.Service as service
 use Rattle.service.specs.Turn as turn
 use Rattle.month.specs.Months.{isMonth, through, twelfth}
 use Rattle.month.specs.Quantities as month
-use Rattle.tables.specs.Search.{any}
 use Rattle.tables.specs.Rows as rows
 use Rattle.tables.specs.Judgement as judgement
 use Rattle.text.specs.Bytes.{bytes}

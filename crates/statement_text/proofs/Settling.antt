@@ -2,20 +2,18 @@
 -- Assumes nothing.
 use mathlib.Core.Path.{_≡_, refl, sym, ap, ap₂, _∙_, subst}
 use mathlib.Core.Logic.{_≢_}
-use mathlib.Core.Bool.{cond}
-use mathlib.Core.List.{List, [], _∷_, _++_}
-use Prim.Native.Nat.{ℕ, _+_, _*_, _/_, _≤_, _<_}
+use mathlib.Core.List.{List}
+use Prim.Native.Nat.{ℕ, _+_, _*_, _/_, _≤_}
 use native.Mathlib.Nat.{le-trans, le-of-eq, mul-le-mul-right, mul-div-left}
 use native.Mathlib.Omega.{arith}
-use lib.Dec.{eqb}
 use lib.ListN.{length, take, drop}
 use lib.Seq.{take-at, getD-take}
-use borrow.Author.Tests.{eq-eqb, ne-eqb}
+use borrow.Author.Tests.{eq-eqb}
 use Rattle.lists.specs.Sums.{at}
 use Rattle.lists.specs.Entries.{put}
 use Rattle.lists.proofs.Entries.{at-put, length-put}
 use Rattle.answer.specs.declared.Answer.{Answer}
-use Rattle.answer.specs.Turns.{accepted, refuse, _then_}
+use Rattle.answer.specs.Turns.{accepted, _then_}
 use Rattle.answer.proofs.Turns.{then-second, refuse-none}
 use Rattle.tables.specs.declared.Table.{Table}
 use Rattle.tables.specs.declared.Table.the-variants.{Zones, Owners, Units, Accounts, Loads, Reservations}
@@ -33,7 +31,6 @@ use Rattle.monthfile.proofs.Rooms.{room-enough}
 use Rattle.settlement.specs.Input.{Input, inputOf, ownerCount, accountCount}
 use Rattle.settlement.specs.Settled.{laid, answerOf, chargeOf, creditOf, chargeWords, creditWords, Settled}
 use Rattle.settlement.specs.Steps.{Holds}
-use Rattle.statement_text.specs.declared.figures.Figures.{Figures}
 use Rattle.statement_text.specs.Statement.{settledAnswer, monthOf}
 use Rattle.statement_text.specs.Steps.{countIn, Front, front, monthIn, Lent, Laid, foundAnswer, FiguresFound}
 use Rattle.statement_text.proofs.Readings.{refused-number, table-fits}

@@ -1,13 +1,13 @@
 -- No statement has more than 10,128 bytes, for a number has 20 at most; and an accepted month's begins otherwise than a refusal.
 -- Assumes nothing.
-use mathlib.Core.Path.{_≡_, refl, sym, ap, _∙_}
+use mathlib.Core.Path.{_≡_, refl, ap, _∙_}
 use mathlib.Core.Logic.{_≢_, ⊎-elim}
 use mathlib.Core.Bool.{Bool, true, false, cond}
 use mathlib.Core.List.{List, [], _∷_, _++_}
 use Prim.Native.Nat.{ℕ, zero, suc, _+_, _*_, _/_, _%_, _≤_, _<_}
-use native.Mathlib.Nat.{le-refl, le-trans, le-of-eq, suc-mul, zero-mul, mul-le-mul-right}
+use native.Mathlib.Nat.{le-refl, le-trans, le-of-eq, suc-mul, mul-le-mul-right}
 use native.Mathlib.Omega.{arith}
-use lib.Dec.{ltb, eqb}
+use lib.Dec.{ltb}
 use lib.ListN.{length, take, drop, length-append, length-take}
 use Rattle.lists.specs.Sums.{at}
 use Rattle.lists.proofs.Ranks.{lt-or-le}

@@ -1,12 +1,11 @@
 -- A statement's lines read back to the numbers and figures that they were made of, so that months with the same statement have
 -- the same figures.
 -- Assumes nothing.
-use mathlib.Core.Path.{_≡_, refl, sym, ap, ap₂, _∙_}
-use mathlib.Core.Logic.{⊎-elim}
+use mathlib.Core.Path.{_≡_, refl, sym, ap, _∙_}
 use mathlib.Core.Bool.{true}
 use mathlib.Core.List.{List, [], _∷_, _++_, append-assoc, append-nil}
-use Prim.Native.Nat.{ℕ, zero, suc, _+_, _*_, _/_, _%_, _≤_, _<_, _^_}
-use native.Mathlib.Nat.{le-step, lt-suc-self, mod-lt, div-lt-iff-lt-mul, le-trans, lt-of-le-of-lt, le-of-eq}
+use Prim.Native.Nat.{ℕ, zero, suc, _+_, _*_, _/_, _%_, _<_}
+use native.Mathlib.Nat.{le-step, lt-suc-self, mod-lt, div-lt-iff-lt-mul, lt-of-le-of-lt, le-of-eq}
 use native.Mathlib.Omega.{arith}
 use lib.Arith.{digits-lt}
 use lib.Dec.{lit<}
@@ -20,11 +19,11 @@ use Rattle.tables.specs.Shape.{limit, chargeWidth, creditWidth}
 use Rattle.tables.specs.Columns.{ownerNumber, accountNumber}
 use Rattle.text.specs.Bytes.{bytes}
 use Rattle.text.specs.Numbers.{bound, Below}
-use Rattle.text.specs.Lines.{equals, apart, lineText}
+use Rattle.text.specs.Lines.{apart, lineText}
 use Rattle.text.proofs.Below.{below-none, below-cons, below-append}
 use Rattle.monthfile.specs.Form.{Kind}
 use Rattle.monthfile.specs.Reading.{Outcome, got, refused, Rows, tables}
-use Rattle.monthfile.specs.Writing.{rowsText, tablesText, Fits, AllFit}
+use Rattle.monthfile.specs.Writing.{rowsText, tablesText, AllFit}
 use Rattle.monthfile.specs.Calls.{nth}
 use Rattle.monthfile.proofs.Forms.{differs, allDiffer, tables-text}
 use Rattle.settlement.specs.Input.{Input, ownerCount, accountCount}

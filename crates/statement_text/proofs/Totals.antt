@@ -5,24 +5,23 @@ use mathlib.Core.Logic.{inl, inr}
 use mathlib.Core.Bool.{Bool, true, false}
 use mathlib.Core.List.{List, [], _∷_}
 use Prim.Native.Nat.{ℕ, zero, suc, _+_, _*_, _/_, _%_, _≤_, _<_, _^_}
-use native.Mathlib.Nat.{add-zero, add-suc, add-assoc, suc-mul, zero-mul, mod-lt, div-lt-iff-lt-mul, le-trans, lt-of-le-of-lt, le-refl, lt-of-lt-of-le, le-of-eq}
+use native.Mathlib.Nat.{add-zero, add-suc, add-assoc, suc-mul, zero-mul, mod-lt, div-lt-iff-lt-mul, le-trans, lt-of-le-of-lt, le-of-eq}
 use native.Mathlib.Omega.{arith}
 use lib.Arith.{digits-div, digits-mod, digits-lt}
-use lib.Dec.{eqb, lit<}
-use lib.ListN.{length}
+use lib.Dec.{eqb}
 use Rattle.lists.specs.Sums.{sumTo, at, when}
 use Rattle.lists.proofs.Sums.{sum-eq, sum-swap}
 use Rattle.lists.proofs.Entries.{listed-eq}
 use Rattle.tables.specs.declared.Table.{Table}
-use Rattle.tables.specs.declared.Table.the-variants.{Zones, Owners, Units, Accounts, Loads, Reservations}
-use Rattle.tables.specs.Shape.{width, limit, rows, chargeWidth, creditWidth}
+use Rattle.tables.specs.declared.Table.the-variants.{Owners, Units, Accounts}
+use Rattle.tables.specs.Shape.{width, limit, rows, chargeWidth, creditWidth, wordsOf}
 use Rattle.tables.specs.Columns.{entry, ownerNumber, unitService, accountNumber}
 use Rattle.tables.specs.Limits.{blackStart, reactive}
 use Rattle.text.specs.Bytes.{bytes}
 use Rattle.settlement.specs.Input.{Input, ownerCount, unitCount, accountCount}
 use Rattle.settlement.specs.Network.{networkCharge}
-use Rattle.settlement.specs.Services.{unitCredit, creditIn, serviceCredit, serviceCharge}
-use Rattle.settlement.specs.Settled.{laid, answerOf, chargeOf, creditOf}
+use Rattle.settlement.specs.Services.{unitCredit, creditIn, serviceCharge}
+use Rattle.settlement.specs.Settled.{laid, chargeOf, creditOf}
 use Rattle.settlement.specs.Accepted.{IsService, Accepted}
 use Rattle.settlement.specs.Steps.{Holds}
 use Rattle.settlement.proofs.Accepting.{answer-accepted}
@@ -31,7 +30,7 @@ use Rattle.settlement.proofs.Ranges.{at-most, charge-within, unit-credit-within
 use Rattle.settlement.proofs.Promises as promises
 use Rattle.statement_text.specs.declared.figures.Figures.{Figures}
 use Rattle.statement_text.specs.Statement.{withNumber, rowsWith, linesText, allCharges, allCredits, statementLines, settledAnswer}
-use Rattle.statement_text.specs.Steps.{figureAt, Rowed, Figured, monthLines, Laid}
+use Rattle.statement_text.specs.Steps.{figureAt, Figured, monthLines, Laid}
 
 -- a figure at its flat index
 pub laid-at : (width : ℕ) (f : ℕ → ℕ → ℕ) (column i : ℕ) → column < width → laid width f (i * width + column) ≡ f column i
@@ -89,7 +88,7 @@ when-within true x most h = h
 when-within false x most h = omega arith
 
 module _ {m : Input} {lentCharges lentCredits : ℕ} (all : Accepted m lentCharges lentCredits) where
-  few : (table : Table) → rows table (Rattle.tables.specs.Shape.wordsOf (m .tables) table) ≤ limit table
+  few : (table : Table) → rows table (wordsOf (m .tables) table) ≤ limit table
   few table = all .good .frame .counted table .few
 
   service-total : (s : ℕ) → IsService s → sumTo (accountCount m) (serviceCharge m s) ≤ 64 * (2 * 10 ^ 12)

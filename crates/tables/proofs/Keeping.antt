@@ -8,21 +8,18 @@ use Prim.Native.Nat.{ℕ, _+_, _-_, _≤_, _<_}
 use native.Mathlib.Omega.{arith}
 use lib.Dec.{ltb, eqb}
 use borrow.Author.Tests.{lt-ltb, le-ltb, eqb-true, eqb-false, eq-eqb, ne-eqb, not-false}
-use Rattle.lists.proofs.Ranks.{true-or-false, lt-or-le}
+use Rattle.lists.specs.Sums.{any}
+use Rattle.lists.proofs.Ranks.{lt-or-le, equal-or-not}
+use Rattle.lists.proofs.Search.{any-found, none-at, none-from}
 use Rattle.answer.proofs.Turns.{zero-or-not}
 use Rattle.tables.specs.declared.Table.{Table}
-use Rattle.tables.specs.Search.{any}
 use Rattle.tables.specs.Shape.{rows}
 use Rattle.tables.specs.Columns.{entry, accountCustomer, accountZone, loadAccount, loadDay}
 use Rattle.tables.specs.Limits.{reactive, mostReserve, reserveLimit}
 use Rattle.tables.specs.Rows.{outside, notAbove, byFirst, byAccountAndDay, names, unknown, samePair, taken}
 use Rattle.tables.specs.Good.{Within, FirstAbove, LoadAbove, Known, OwnPair}
-use Rattle.tables.proofs.Search.{any-found, none-at, none-from}
 use Rattle.tables.proofs.Looks.{first-row, later-row, row-found}
 use Rattle.tables.proofs.Tests.{Tests, reworded, both, at-least, less}
-
-equal-or-not : (a b : ℕ) → (a ≡ b) ⊎ (a ≢ b)
-equal-or-not a b = ⊎-elim (λ e. inl (eqb-true a b e)) (λ e. inr (eqb-false a b e)) (true-or-false (eqb a b))
 
 -- RANGE
 pub within : (low high x : ℕ) → Tests (Within low high x) (outside low high x)

@@ -1,4 +1,3 @@
-pub mod Search
 pub mod Places
 pub mod Refusals
 pub mod Tests

@@ -6,12 +6,12 @@ use mathlib.Core.List.{List}
 use Prim.Native.Nat.{ℕ, _-_, _<_}
 use native.Mathlib.Nat.{pos-of-ne-zero}
 use borrow.Author.Tests.{lt-ltb, eq-eqb}
+use Rattle.lists.specs.Sums.{any}
+use Rattle.lists.proofs.Search.{any-at}
 use Rattle.tables.specs.declared.Table.{Table}
-use Rattle.tables.specs.Search.{any}
 use Rattle.tables.specs.Shape.{rows}
 use Rattle.tables.specs.Columns.{entry}
 use Rattle.tables.specs.Rows.{notAbove, names, unknown, samePair, taken}
-use Rattle.tables.proofs.Search.{any-at}
 
 pub first-row : (above : ℕ → ℕ → Bool) (i : ℕ) → i ≡ 0 → false ≡ notAbove above i
 unfolding notAbove

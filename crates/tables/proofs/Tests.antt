@@ -5,7 +5,7 @@ use mathlib.Core.Bool.{Bool, true, false, true≢false, not, _||_}
 use Prim.Native.Nat.{ℕ, _≤_, _<_}
 use lib.Dec.{ltb, eqb}
 use borrow.Author.Tests.{ltb-true, ltb-false, lt-ltb, le-ltb, eqb-true, eq-eqb, not-false}
-use Rattle.tables.proofs.Search.{or-false, or-left, or-right}
+use Rattle.lists.proofs.Sums.{neither}
 
 pub record Tests (Rule : Type 0) (fault : Bool) : Type 0 where
   pub holds : fault ≡ false → Rule
@@ -26,8 +26,8 @@ no-rule = record { holds = λ e. tt; kept = λ r. refl }
 -- two rules, and a fault of either
 pub both : {P Q : Type 0} {s t : Bool} → Tests P s → Tests Q t → Tests (P × Q) (s || t)
 both {s = s} {t = t} p q = record {
-  holds = λ e. (p .holds (or-left s t e), q .holds (or-right s t e));
-  kept = λ r. or-false s t (p .kept (r .0)) (q .kept (r .1));
+  holds = λ e. let none = neither s t e in (p .holds (none .0), q .holds (none .1));
+  kept = λ r. rw (p .kept (r .0), q .kept (r .1));
 }
 
 -- a number is at least another

@@ -1,4 +1,3 @@
-pub mod Search
 pub mod Shape
 pub mod Columns
 pub mod Limits

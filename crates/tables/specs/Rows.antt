@@ -4,12 +4,12 @@ use Prim.Native.Nat.{ℕ, _-_}
 use mathlib.Core.Bool.{Bool, false, not, _&&_, _||_}
 use mathlib.Core.List.{List}
 use lib.Dec.{eqb, ltb}
+use Rattle.lists.specs.Sums.{any}
 use Rattle.answer.specs.Numbers.{RANGE, ORDER, LINK, PAIR}
 use Rattle.answer.specs.Turns.{look}
 use Rattle.month.specs.Limits.{mostRate, mostAnnual, mostLoad, mostEnergy}
 use Rattle.tables.specs.declared.Table.{Table}
 use Rattle.tables.specs.declared.Table.the-variants.{Zones, Owners, Units, Accounts, Loads, Reservations}
-use Rattle.tables.specs.Search.{any}
 use Rattle.tables.specs.Shape.{rows, Tables, wordsOf}
 use Rattle.tables.specs.Columns.{
   entry,

@@ -6,8 +6,7 @@ use native.Mathlib.Omega.{arith}
 use lib.ListN.{length}
 use borrow.Author.Needs.{needs}
 use Rattle.lists.specs.Sums.{sumTo, at}
-use Rattle.lists.proofs.Sums.{sum-none, sum-suc}
-use Rattle.service.proofs.Sums.{sum-within}
+use Rattle.lists.proofs.Sums.{sum-none, sum-suc, sum-within}
 use Rattle.service.proofs.sum.Statement.{statement}
 use Rattle.service.proofs.sum.Tie as tie
 

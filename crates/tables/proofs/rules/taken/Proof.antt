@@ -5,10 +5,10 @@ use mathlib.Core.Bool.{false}
 use Prim.Native.Nat.{_≤_, _-_}
 use native.Mathlib.Omega.{arith}
 use borrow.Author.Needs.{needs}
-use Rattle.tables.specs.Search.{any}
+use Rattle.lists.specs.Sums.{any}
+use Rattle.lists.proofs.Search.{none-start, none-more, none-end}
 use Rattle.tables.specs.Rows.{samePair}
 use Rattle.tables.proofs.Looks.{pair-found, pair-missing}
-use Rattle.tables.proofs.Search.{none-start, none-more, none-end}
 use Rattle.tables.proofs.rules.taken.Statement.{statement}
 use Rattle.tables.proofs.rules.taken.Tie as tie
 

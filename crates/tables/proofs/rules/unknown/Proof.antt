@@ -5,11 +5,11 @@ use mathlib.Core.Bool.{false}
 use Prim.Native.Nat.{_≤_, _-_}
 use native.Mathlib.Omega.{arith}
 use borrow.Author.Tests.{ne-eqb}
-use Rattle.tables.specs.Search.{any}
+use Rattle.lists.specs.Sums.{any}
+use Rattle.lists.proofs.Search.{none-start, none-more, none-end}
 use Rattle.tables.specs.Rows.{names}
 use Rattle.tables.proofs.Places.{width-pos}
 use Rattle.tables.proofs.Looks.{row-found, row-missing}
-use Rattle.tables.proofs.Search.{none-start, none-more, none-end}
 use borrow.Author.Needs.{needs}
 use Rattle.tables.proofs.rules.unknown.Statement.{statement}
 use Rattle.tables.proofs.rules.unknown.Tie as tie
