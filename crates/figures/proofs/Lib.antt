@@ -1,1 +1,4 @@
 pub mod Starred
+pub mod SettledMonths
+pub mod MonthFiles
+pub mod Statements

@@ -9,8 +9,8 @@ use Rattle.division.specs.Shares.{quotient, remainder, leftover, comesBefore, g
 use Rattle.division.specs.Check.{passes, verdict}
 use Rattle.month.specs.Quantities.{nearest, networkCharge}
 use Rattle.month.specs.Months.{through, twelfth}
-use Rattle.statement_text.proofs.Promises.{case-s}
 use Rattle.figures.specs.Starred.{Starred}
+use Rattle.figures.proofs.Statements.{case-s}
 
 pub starred : Starred
 unfolding sumTo every largestFirst listed level sizeRefusal divideRefusal checkRefusal quotient remainder leftover comesBefore getsCent share shares passes verdict nearest networkCharge through twelfth

@@ -1,8 +1,7 @@
 -- The starred figures of the paper, one row each: what the definitions must give.
 -- Assumes nothing.
 use mathlib.Core.Path.{_≡_}
-use mathlib.Core.List.{List, [], _∷_}
-use Prim.Native.Nat.{ℕ}
+use mathlib.Core.List.{[], _∷_}
 use Rattle.answer.specs.Numbers.{BASE}
 use Rattle.division.specs.Limits.{divideRefusal}
 use Rattle.division.specs.Shares.{shares}

@@ -11,8 +11,6 @@ fn zones() {
     read_front(b"16 zones", &text, 177);
     put_bytes(b"zone=0,0\nend=17\n", &mut text, 170);
     read_front(b"17 zones", &text, 186);
-    read_front(b"17 zones and no end", &text, 179);
-    read_front(b"17 zones, the last without line feed", &text, 178);
 }
 
 fn zones_and_text() {

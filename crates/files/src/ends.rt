@@ -4,14 +4,12 @@ use crate::case::bent;
 fn number() {
     bent(b"end with one row too few", 155, 161, b"end=8\n");
     bent(b"end with one row too many", 155, 161, b"end=10\n");
-    bent(b"end with no rows", 155, 161, b"end=0\n");
     bent(
         b"end with 2^64-1 rows",
         155,
         161,
         b"end=18446744073709551615\n",
     );
-    bent(b"a load less and the same end", 131, 143, b"");
 }
 
 fn shape() {
@@ -21,9 +19,7 @@ fn shape() {
 
 fn behind() {
     bent(b"line feed behind end", 161, 161, b"\n");
-    bent(b"byte 0 behind end", 161, 161, b"\0");
     bent(b"end twice", 161, 161, b"end=9\n");
-    bent(b"row behind end", 161, 161, b"ptp=3,0,0\n");
     bent(
         b"line feed behind end with another number",
         155,

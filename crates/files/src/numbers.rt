@@ -2,16 +2,12 @@
 use crate::case::bent;
 
 fn zeros() {
-    bent(b"needless zero in the head", 8, 16, b"days=030\n");
-    bent(b"needless zero in a zone", 26, 40, b"zone=01,365000\n");
     bent(
         b"needless zero at the end of an owner",
         54,
         68,
         b"owner=2,1,0100\n",
     );
-    bent(b"two zeros in ptp", 143, 155, b"ptp=2,480,00\n");
-    bent(b"needless zero in end", 155, 161, b"end=09\n");
 }
 
 fn large() {
@@ -39,32 +35,15 @@ fn large() {
         89,
         b"unit=1,2,1,1,18446744073709551616,0\n",
     );
-    bent(
-        b"2^64+1 in a load",
-        131,
-        143,
-        b"load=1,2,18446744073709551617\n",
-    );
 }
 
 fn many_digits() {
     bent(b"20 nines", 26, 40, b"zone=1,99999999999999999999\n");
-    bent(b"19 nines", 26, 40, b"zone=1,9999999999999999999\n");
-    bent(
-        b"2^64-1 behind a zero",
-        26,
-        40,
-        b"zone=1,018446744073709551615\n",
-    );
-    bent(b"2^64 in end", 155, 161, b"end=18446744073709551616\n");
 }
 
 fn signs() {
     bent(b"plus sign", 89, 104, b"account=+1,70,1\n");
     bent(b"minus sign", 119, 131, b"load=1,1,-10\n");
-    bent(b"minus zero in the head", 16, 26, b"nonzone=-0\n");
-    bent(b"decimal point", 131, 143, b"load=1,2,1.0\n");
-    bent(b"letter in a number", 8, 16, b"days=3O\n");
 }
 
 fn just_beside_digits() {
@@ -74,9 +53,7 @@ fn just_beside_digits() {
 
 fn no_range() {
     bent(b"month 13", 0, 8, b"month=13\n");
-    bent(b"days 0", 8, 16, b"days=0\n");
     bent(b"zone 0", 26, 40, b"zone=0,365000\n");
-    bent(b"owners that don't ascend", 54, 68, b"owner=1,1,200\n");
     bent(b"load of no account", 131, 143, b"load=99,1,10\n");
 }
 

@@ -3,9 +3,7 @@ use crate::case::bent;
 
 fn behind() {
     bent(b"unit before the owners", 40, 40, b"unit=1,2,1,1,12000,0\n");
-    bent(b"zone behind an owner", 54, 54, b"zone=2,1\n");
     bent(b"account behind a load", 131, 131, b"account=3,72,1\n");
-    bent(b"load behind ptp", 155, 155, b"load=1,3,10\n");
     bent(
         b"ptp before the loads",
         119,
@@ -15,17 +13,13 @@ fn behind() {
 }
 
 fn no_table() {
-    bent(b"month among the rows", 40, 40, b"month=4\n");
     bent(b"key of no table", 143, 155, b"reservation=2,480,0\n");
     bent(b"end before ptp", 143, 161, b"end=8\nptp=2,480,0\n");
 }
 
 fn left_out() {
     bent(b"no zones", 26, 161, b"owner=1,1,200\nend=1\n");
-    bent(b"no loads and no ptp", 119, 161, b"end=6\n");
-    bent(b"ptp alone", 26, 161, b"ptp=2,480,0\nend=1\n");
     bent(b"no rows", 26, 161, b"end=0\n");
-    bent(b"a load less", 131, 161, b"ptp=2,480,0\nend=8\n");
 }
 
 pub(crate) fn run() {

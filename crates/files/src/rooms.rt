@@ -31,17 +31,6 @@ fn first_of_two() {
         2_975,
         96,
     );
-    read_into(
-        b"loads and reservations a word short",
-        &TEXT,
-        32,
-        192,
-        384,
-        96,
-        2_975,
-        95,
-    );
-    read_into(b"nothing lent", &TEXT, 0, 0, 0, 0, 0, 0);
 }
 
 fn before_the_text() {

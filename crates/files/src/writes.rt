@@ -155,10 +155,7 @@ fn reservations_as(name: &[u8], reservations: &[u64]) {
 
 fn torn() {
     zones_as(b"write zones a word short", &ZONES[..1]);
-    owners_as(b"write owners a word short", &OWNERS[..5]);
-    units_as(b"write units a word short", &UNITS[..5]);
     accounts_as(b"write accounts a word over", &ACCOUNTS[..4]);
-    loads_as(b"write loads a word over", &LOADS[..4]);
     reservations_as(b"write reservations a word short", &RESERVATIONS[..2]);
 }
 
@@ -166,8 +163,6 @@ fn row_too_many() {
     let zeros = [0u64; 2_979];
     zones_as(b"write 17 zones", &zeros[..34]);
     owners_as(b"write 65 owners", &zeros[..195]);
-    units_as(b"write 65 units", &zeros[..390]);
-    accounts_as(b"write 33 accounts", &zeros[..99]);
     loads_as(b"write 993 loads", &zeros);
     reservations_as(b"write 33 reservations", &zeros[..99]);
 }
@@ -181,16 +176,6 @@ fn first_bad_table() {
         &ACCOUNTS,
         &LOADS[..5],
         &RESERVATIONS,
-        192,
-    );
-    write_into(
-        b"write loads and reservations a word short",
-        &ZONES,
-        &OWNERS,
-        &UNITS,
-        &ACCOUNTS,
-        &LOADS[..5],
-        &RESERVATIONS[..2],
         192,
     );
     write_into(
@@ -248,29 +233,6 @@ fn room() {
     );
 }
 
-fn no_rows() {
-    write_into(
-        b"write no rows into 31 bytes",
-        &[],
-        &[],
-        &[],
-        &[],
-        &[],
-        &[],
-        31,
-    );
-    write_into(
-        b"write no rows into 32 bytes",
-        &[],
-        &[],
-        &[],
-        &[],
-        &[],
-        &[],
-        32,
-    );
-}
-
 fn full_tables() {
     let zones = [0u64; 32];
     let owners = [0u64; 192];
@@ -321,7 +283,6 @@ pub(crate) fn run() {
     row_too_many();
     first_bad_table();
     room();
-    no_rows();
     full_tables();
     large_heads();
 }

@@ -1,27 +1,27 @@
 -- The calls' answers, from the tests that the code makes in turn and from what `divide` and `check` say of the numbers. Of a
 -- division only its contract and its laws are cited.
 -- Assumes nothing.
-use mathlib.Core.Path.{_≡_, refl, sym, ap, ap₂, _∙_, subst}
+use mathlib.Core.Path.{_≡_, sym, ap, _∙_}
 use mathlib.Core.Logic.{_≢_}
-use mathlib.Core.Bool.{Bool, true, false, cond, not}
+use mathlib.Core.Bool.{true, false, cond, not}
 use mathlib.Core.List.{List, _++_, append-assoc}
 use Prim.Native.Nat.{ℕ, _+_, _*_, _/_, _%_, _≤_, _<_, min}
 use native.Mathlib.Omega.{arith}
 use lib.Dec.{eqb}
 use lib.ListN.{length, take, drop}
-use lib.Seq.{take-append-le, take-at}
+use lib.Seq.{take-at}
 use borrow.Author.Tests.{eq-eqb, ne-eqb, eqb-true, not-false}
 use Rattle.lists.proofs.Sums.{neither}
 use Rattle.lists.specs.Entries.{put}
 use Rattle.division.specs.Limits.{mostWeights, divideRefusal}
-use Rattle.division.specs.Shares.{shares, memory, Divided}
+use Rattle.division.specs.Shares.{shares, Divided}
 use Rattle.division.specs.Check.{verdict, numberOf, valueOf}
 use Rattle.division.specs.declared.Division.{Division}
 use Rattle.division.specs.declared.Verdict.{Verdict}
-use Rattle.division.specs.declared.Verdict.the-variants.{Yes, No, Refused}
+use Rattle.division.specs.declared.Verdict.the-variants.{Refused}
 use Rattle.division.proofs.Laws as laws
 use Rattle.host.specs.Words.{isUneven, numbers, bytes}
-use Rattle.host.specs.Stores.{byteAt, numberAt, WholeWords}
+use Rattle.host.specs.Stores.{byteAt, WholeWords}
 use Rattle.host.specs.Calls.{word, hostDivideRefusal, hostMemory, HostDivided, hostVerdict}
 use Rattle.host.proofs.Digits.{length-numbers, stored-bytes}
 

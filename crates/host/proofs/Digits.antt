@@ -1,22 +1,21 @@
 -- Numbers in bytes: what the code reads and stores eight bytes at a time is what the definitions say, and reading bytes and
 -- writing them again, or the other way round, gives back what there was.
 -- Assumes nothing.
-use mathlib.Core.Path.{_≡_, refl, sym, ap, ap₂, _∙_, subst}
+use mathlib.Core.Path.{_≡_, sym, ap, ap₂, _∙_, subst}
 use mathlib.Core.Logic.{⊎-elim}
 use mathlib.Core.List.{List, _++_}
 use Prim.Native.Nat.{ℕ, zero, suc, _+_, _-_, _*_, _/_, _%_, _^_, _≤_, _<_}
-use native.Mathlib.Nat.{add-zero, div-one, le-step, lt-suc-self, pow-suc, mod-one, mod-eq-of-lt, not-suc-le-zero, mul-comm, mul-assoc, add-mul-div-right, add-mul-mod-self-right, div-eq-of-lt, mul-le-mul-right, zero-lt-suc, one-le-pow}
-use native.Mathlib.Numerals.{add-one}
+use native.Mathlib.Nat.{add-zero, div-one, le-step, lt-suc-self, pow-suc, mod-one, mod-eq-of-lt, not-suc-le-zero, mul-comm, add-mul-div-right, add-mul-mod-self-right, zero-lt-suc, one-le-pow}
 use native.Mathlib.Omega.{arith}
-use lib.Arith.{mod-mul, digits-div, digits-mod, digits-lt}
+use lib.Arith.{mod-mul, digits-div, digits-lt}
 use lib.Pow.{pow-add}
-use lib.ListN.{length, set, take, drop, length-take}
+use lib.ListN.{length, set, take, drop}
 use lib.Seq.{take-at, ext-getD}
 use Rattle.lists.specs.Sums.{sumTo, at}
 use Rattle.lists.specs.Entries.{listed, put}
 use Rattle.lists.proofs.Sums.{sum-eq, last-or-below}
-use Rattle.lists.proofs.Entries.{put-suc, put-listed, length-listed, at-listed, length-put}
-use Rattle.host.specs.Words.{wordBytes, numberFrom, numbers, byteOf, bytes}
+use Rattle.lists.proofs.Entries.{put-suc, put-listed, length-listed, at-listed}
+use Rattle.host.specs.Words.{numberFrom, numbers, byteOf, bytes}
 use Rattle.host.specs.Stores.{numberAt, byteAt, storedTo}
 
 -- eight bytes as the code adds them up

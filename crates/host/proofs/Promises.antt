@@ -5,12 +5,14 @@ use mathlib.Core.Path.{_≡_, sym, subst}
 use mathlib.Core.Logic.{_⊎_, _≢_}
 use mathlib.Core.List.{List, _++_}
 use Prim.Native.Nat.{ℕ, _/_, _%_, _^_, _≤_, _<_}
+use native.Mathlib.Nat.{le-trans}
 use lib.ListN.{length, take, drop}
 use Rattle.lists.specs.Sums.{at}
 use Rattle.answer.specs.Numbers.{COUNT, ROOM}
 use Rattle.division.specs.Limits.{divideRefusal}
 use Rattle.division.specs.Shares.{shares}
 use Rattle.division.specs.Check.{verdict, numberOf, valueOf}
+use Rattle.statement_text.proofs.Promises.{statement-is-short}
 use Rattle.host.specs.Words.{numbers, bytes}
 use Rattle.statement_text.specs.Statement.{statementOf}
 use Rattle.host.specs.Calls.{word, hostDivideRefusal, hostMemory, HostDivided, hostVerdict, HostStated}
@@ -75,8 +77,8 @@ pub check-in-parts : (pot : ℕ) (weights amounts : List ℕ) → length weights
     × (hostVerdict pot weights amounts / 256 ≡ valueOf (verdict pot (numbers weights) (numbers amounts)))
 check-in-parts pot weights amounts e f = reading.said-in-parts pot weights amounts (record { these-whole = e; those-whole = f })
 
--- in 10,128 bytes every statement finds room: it stands first, and its length is the answer's value
-pub statement-with-room : (text before after : List ℕ) (r : ℕ) → HostStated text before after r → 10128 ≤ length before
+-- where the lent bytes are enough for it, the statement stands first, and its length is the answer's value
+pub statement-with-room : (text before after : List ℕ) (r : ℕ) → HostStated text before after r → length (statementOf text) ≤ length before
     → (r ≡ word 0 (length (statementOf text))) × (after ≡ statementOf text ++ drop (length (statementOf text)) before)
 statement-with-room = stating.statement-with-room
 
@@ -84,3 +86,7 @@ statement-with-room = stating.statement-with-room
 pub statement-without-room : (text before after : List ℕ) (r : ℕ) → HostStated text before after r → length before < length (statementOf text)
     → (r ≡ word ROOM 0) × (after ≡ before)
 statement-without-room = stating.statement-without-room
+
+-- 10,128 bytes are enough for every statement
+pub always-room : (text before : List ℕ) → 10128 ≤ length before → length (statementOf text) ≤ length before
+always-room text before room = le-trans (statement-is-short text) room

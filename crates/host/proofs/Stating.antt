@@ -61,12 +61,11 @@ statement-without-room text before after r h short =
       h .lent ∙ ap (stored before 0) none ∙ stored-none before 0,
     )
 
--- room for 10,128 bytes is enough
-pub statement-with-room : (text before after : List ℕ) (r : ℕ) → HostStated text before after r → 10128 ≤ length before
+-- where there is room, it stands first, and its length is the answer's value
+pub statement-with-room : (text before after : List ℕ) (r : ℕ) → HostStated text before after r → length (statementOf text) ≤ length before
     → (r ≡ word 0 (length (statementOf text))) × (after ≡ statementOf text ++ drop (length (statementOf text)) before)
 unfolding fitting
-statement-with-room text before after r h room =
-    let enough : length (statementOf text) ≤ length before = le-trans (statement-is-short text) room in
+statement-with-room text before after r h enough =
     let all : fitting (statementOf text) (length before) ≡ statementOf text = rw (le-ltb (length before) (length (statementOf text)) enough) in (
       h .answer
           ∙ ap₂ (λ (a : Answer) l. word (a .number) (length l))

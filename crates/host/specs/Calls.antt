@@ -43,7 +43,8 @@ hostVerdict pot weights amounts =
     look (isUneven (length weights) (length amounts)) COUNT
     (word (numberOf (verdict pot (numbers weights) (numbers amounts))) (valueOf (verdict pot (numbers weights) (numbers amounts))))
 
--- What `noketualo_statement` answers and leaves in the lent bytes: ROOM and nothing, or the statement and its length.
+-- What `noketualo_statement` answers and leaves in the lent bytes: ROOM and nothing, or the statement and its length. A month that
+-- is refused has a statement too, so the answer's number is then 0.
 pub record HostStated (text before after : List ℕ) (r : ℕ) : Type 0 where
   pub answer : r ≡ word (roomFor head (length (statementOf text)) (length before) .number) (length (fitting (statementOf text) (length before)))
   pub lent : after ≡ places.stored before 0 (fitting (statementOf text) (length before))

@@ -1,23 +1,19 @@
 -- The second walk: each kind of rows is there as the first walk counted it, and the next kind begins behind it.
 -- Assumes nothing.
-use mathlib.Core.Path.{_≡_, refl, sym, ap, ap₂, _∙_, subst}
+use mathlib.Core.Path.{_≡_, sym, ap, ap₂, _∙_, subst}
 use mathlib.Core.Logic.{⊎-elim}
-use mathlib.Core.List.{List, [], _∷_}
-use Prim.Native.Nat.{ℕ, zero, suc, _+_, _*_, _≤_, _<_}
+use mathlib.Core.List.{List, _∷_}
+use Prim.Native.Nat.{ℕ, suc, _+_, _*_, _≤_, _<_}
 use native.Mathlib.Nat.{le-trans, mul-le-mul-right}
-use native.Mathlib.Omega.{arith}
-use lib.ListN.{length, getD, drop}
+use lib.ListN.{length, drop}
 use lib.Seq.{getD-drop, drop-drop}
 use Rattle.lists.proofs.Ranks.{lt-or-le}
-use Rattle.tables.specs.declared.Table.{Table}
-use Rattle.tables.specs.declared.Table.the-variants.{Zones, Owners, Units, Accounts, Loads, Reservations}
-use Rattle.tables.specs.Shape.{width, limit, Tables, tablesOf, wordsOf}
+use Rattle.tables.specs.Shape.{width, limit}
 use Rattle.text.specs.Places.{stored}
-use Rattle.monthfile.specs.declared.Reading.{Reading}
-use Rattle.monthfile.specs.Form.{Kind, key, kindOf, monthForm}
-use Rattle.monthfile.specs.Reading.{Outcome, got, refused, onward, Rows, RowsRead, rows, tables}
-use Rattle.monthfile.specs.Calls.{noRows, nth, filled}
-use Rattle.monthfile.specs.Walks.{RowsTaken, Ready, FilledFrom}
+use Rattle.monthfile.specs.Form.{Kind, key}
+use Rattle.monthfile.specs.Reading.{Outcome, got, Rows, RowsRead, rows, tables}
+use Rattle.monthfile.specs.Calls.{noRows, nth}
+use Rattle.monthfile.specs.Walks.{RowsTaken}
 use Rattle.monthfile.proofs.RowLaws.{rows-exact}
 use Rattle.monthfile.proofs.Forms.{not-both, Onward, onward-back, tables-on, tables-over, readOf, tableOf}
 

@@ -2,14 +2,14 @@
 -- some contents is their text. Line by line, from the laws of rows and lines.
 -- Assumes nothing.
 use mathlib.Core.Path.{_≡_, refl, sym, ap, ap₂, _∙_, subst}
-use mathlib.Core.Logic.{_⊎_, inl, inr, ⊎-elim, _≢_}
-use mathlib.Core.Bool.{Bool, true, false, cond, _&&_}
+use mathlib.Core.Logic.{_⊎_, ⊎-elim, _≢_}
+use mathlib.Core.Bool.{Bool, true, false, _&&_}
 use mathlib.Core.List.{List, [], _∷_, _++_, append-assoc, append-nil}
-use Prim.Native.Nat.{ℕ, zero, suc, _+_, _-_, _*_, _≤_, _<_}
+use Prim.Native.Nat.{ℕ, zero, suc, _+_, _-_, _≤_, _<_}
 use native.Mathlib.Omega.{arith}
-use lib.Dec.{ltb, eqb}
-use lib.ListN.{length, take, drop, length-append}
-use borrow.Author.Tests.{lt-ltb, le-ltb, eq-eqb, ne-eqb, ltb-true, ltb-false, eqb-true, eqb-false}
+use lib.Dec.{eqb}
+use lib.ListN.{length, take, drop}
+use borrow.Author.Tests.{lt-ltb, le-ltb, eq-eqb, ne-eqb, eqb-true, eqb-false}
 use Rattle.lists.specs.Sums.{at}
 use Rattle.lists.proofs.Ranks.{true-or-false, lt-or-le}
 use Rattle.lists.proofs.Sums.{both-left, both-right}
@@ -18,12 +18,11 @@ use Rattle.answer.specs.Numbers.{COUNT}
 use Rattle.answer.specs.Turns.{refuse}
 use Rattle.text.specs.Numbers.{Found, found, missing, bound, Below}
 use Rattle.text.specs.Lines.{equals, apart, line, lineText}
-use Rattle.text.proofs.Numbers.{never}
-use Rattle.text.proofs.Below.{below-none, below-cons, below-append, below-drop}
+use Rattle.text.proofs.Below.{below-none, below-cons}
 use Rattle.text.proofs.Lines.{line-text, line-back, Line, line-apart}
 use Rattle.monthfile.specs.Form.{Kind, Form}
 use Rattle.monthfile.specs.Reading.{Outcome, got, refused, onward, unfit, Rows, RowsRead, rows, heads, tables, Contents, rowsIn, closed, ending, reading}
-use Rattle.monthfile.specs.Writing.{rowsText, headsText, tablesText, fileText, Fits, AllFit, Within}
+use Rattle.monthfile.specs.Writing.{rowsText, headsText, tablesText, fileText, AllFit, Within}
 use Rattle.monthfile.proofs.RowLaws.{rows-text, rows-back, RowsBack}
 
 -- nothing is both refused and read

@@ -1,23 +1,22 @@
 -- A whole text judged: the three walks one after the other give what the text holds, or its first refusal.
 -- Assumes nothing.
-use mathlib.Core.Path.{_≡_, refl, sym, ap, ap₂, _∙_, subst}
+use mathlib.Core.Path.{_≡_, refl, sym, ap, ap₂, _∙_}
 use mathlib.Core.Logic.{_≢_}
 use mathlib.Core.List.{List, [], _∷_}
-use Prim.Native.Nat.{ℕ, zero, suc, _^_, _≤_, _<_}
+use Prim.Native.Nat.{ℕ, zero, suc, _^_, _<_}
 use native.Mathlib.Nat.{lt-of-le-of-lt}
-use native.Mathlib.Omega.{arith}
 use lib.Dec.{lit<}
-use lib.ListN.{length, getD, drop}
+use lib.ListN.{length, drop}
 use Rattle.lists.specs.Sums.{at}
 use Rattle.answer.specs.declared.Answer.{Answer}
 use Rattle.answer.specs.Turns.{accepted}
 use Rattle.monthfile.specs.declared.Reading.{Reading}
 use Rattle.monthfile.specs.declared.judge.Walk.{Walk}
 use Rattle.monthfile.specs.Form.{Kind, monthForm}
-use Rattle.monthfile.specs.Reading.{Outcome, got, refused, Rows, heads, tables, Contents, rowsIn, ending, reading}
+use Rattle.monthfile.specs.Reading.{got, refused, Rows, heads, tables, rowsIn, ending, reading}
 use Rattle.monthfile.specs.Writing.{AllFit}
-use Rattle.monthfile.specs.Calls.{noRows, nth, readAnswer}
-use Rattle.monthfile.specs.Walks.{Walked, Ended, JudgedAs, Body, countsOf, readingOf, addedUp}
+use Rattle.monthfile.specs.Calls.{nth, readAnswer}
+use Rattle.monthfile.specs.Walks.{Walked, Ended, JudgedAs, countsOf, readingOf, addedUp}
 use Rattle.monthfile.proofs.Forms.{heads-back, HeadsBack, tables-back, TablesBack, rows-in-most, mostRows}
 use Rattle.monthfile.proofs.LineWalks.{itself, added-counts, stored-all, reading-heads, reading-tables, reading-on}
 

@@ -1,4 +1,3 @@
-pub mod CaseS
 pub mod RowLaws
 pub mod Forms
 pub mod RowWalks

@@ -1,10 +1,10 @@
 -- Walks over first lines and tables: what is left from here on is what was to be read from the start, and where a walk stops.
 -- Assumes nothing.
-use mathlib.Core.Path.{_≡_, refl, sym, ap, ap₂, _∙_, subst}
+use mathlib.Core.Path.{_≡_, refl, sym, ap, ap₂, _∙_}
 use mathlib.Core.Logic.{_≢_}
 use mathlib.Core.List.{List, [], _∷_, _++_, append-assoc, append-nil}
 use Prim.Native.Nat.{ℕ, zero, suc, _+_, _-_, _≤_, _<_}
-use native.Mathlib.Nat.{add-zero, zero-add}
+use native.Mathlib.Nat.{zero-add}
 use native.Mathlib.Omega.{arith}
 use lib.ListN.{length, drop, set, length-drop, length-append}
 use lib.Seq.{drop-length}
@@ -16,16 +16,16 @@ use Rattle.answer.proofs.Turns.{refuse-number}
 use Rattle.tables.specs.Shape.{limit, number}
 use Rattle.tables.specs.declared.Table.the-variants.{Reservations}
 use Rattle.text.specs.Bytes.{bytes}
-use Rattle.text.specs.Numbers.{Found, found, missing}
+use Rattle.text.specs.Numbers.{found}
 use Rattle.text.specs.Lines.{line}
-use Rattle.text.specs.Places.{LineAt, fieldsOf, stored}
+use Rattle.text.specs.Places.{fieldsOf, stored}
 use Rattle.text.proofs.Lines.{Line, line-back}
 use Rattle.text.proofs.Places.{drop-next, drop-end}
 use Rattle.text.proofs.Stores.{stored-none, stored-one, stored-append, stored-is}
 use Rattle.monthfile.specs.declared.row.Counted.{Counted}
 use Rattle.monthfile.specs.declared.judge.Walk.{Walk}
 use Rattle.monthfile.specs.Form.{Kind, Form, kindOf, monthForm, tableAt, headAt}
-use Rattle.monthfile.specs.Reading.{Outcome, got, refused, onward, unfit, Rows, RowsRead, heads, tables, Contents, rowsIn, closed, ending, reading}
+use Rattle.monthfile.specs.Reading.{Outcome, got, refused, onward, unfit, Rows, heads, tables, Contents, rowsIn, closed, ending, reading}
 use Rattle.monthfile.specs.Walks.{CountedAt, OneTaken, Walked, Ended, countsOf, addedUp}
 use Rattle.monthfile.proofs.Forms.{heads-none, heads-on, heads-stop, tables-none, tables-on, tables-over, readOf, tableOf, ending-stop, ending-other, ending-on}
 

@@ -1,13 +1,11 @@
 -- A month's text as pieces in a row: the first lines, a piece for each table, the last line.
 -- Assumes nothing.
-use mathlib.Core.Path.{_≡_, refl, sym, ap, ap₂, _∙_, subst}
+use mathlib.Core.Path.{_≡_, refl, sym, ap, _∙_}
 use mathlib.Core.Logic.{_≢_}
-use mathlib.Core.Bool.{cond}
 use mathlib.Core.List.{List, [], _∷_, _++_}
 use Prim.Native.Nat.{ℕ, _+_, _/_, _≤_, _<_, min}
 use native.Mathlib.Nat.{zero-add}
 use native.Mathlib.Omega.{arith}
-use lib.Dec.{eqb}
 use lib.ListN.{length}
 use borrow.Author.Tests.{eq-eqb, ne-eqb}
 use Rattle.answer.specs.declared.Answer.{Answer}
@@ -22,9 +20,8 @@ use Rattle.text.specs.Bytes.{bytes}
 use Rattle.text.specs.Lines.{lineText}
 use Rattle.text.specs.Places.{Put, Sized, stored}
 use Rattle.text.proofs.Stores.{stored-none}
-use Rattle.monthfile.specs.declared.Written.{Written}
 use Rattle.monthfile.specs.Form.{key, monthForm}
-use Rattle.monthfile.specs.Reading.{Contents, Rows, rowsIn}
+use Rattle.monthfile.specs.Reading.{Contents, rowsIn}
 use Rattle.monthfile.specs.Writing.{rowsText, headsText, tablesText, fileText}
 use Rattle.monthfile.specs.Calls.{allRows, contentsOf, writeRefusal, textWritten, Writes}
 use Rattle.monthfile.proofs.Rooms.{room-short, room-enough}

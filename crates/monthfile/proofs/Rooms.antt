@@ -1,29 +1,26 @@
 -- `read` from its parts: the look at ROOM, the judgement of the text, and the tables filled.
 -- Assumes nothing.
-use mathlib.Core.Path.{_≡_, refl, sym, ap, ap₂, _∙_, subst}
+use mathlib.Core.Path.{_≡_, refl, sym, ap, _∙_}
 use mathlib.Core.Logic.{_≢_, ⊎-elim}
-use mathlib.Core.Bool.{cond}
-use mathlib.Core.List.{List, [], _∷_}
+use mathlib.Core.List.{List, []}
 use Prim.Native.Nat.{ℕ, _*_, _≤_, _<_}
 use native.Mathlib.Omega.{arith}
-use lib.Dec.{eqb, ltb}
 use lib.ListN.{length}
 use borrow.Author.Tests.{lt-ltb, le-ltb, eq-eqb, ne-eqb}
 use Rattle.lists.proofs.Ranks.{lt-or-le}
 use Rattle.answer.specs.declared.Answer.{Answer}
 use Rattle.answer.specs.Numbers as answers
-use Rattle.answer.specs.Turns.{accepted, look, refuse, _then_}
+use Rattle.answer.specs.Turns.{refuse, _then_}
 use Rattle.answer.proofs.Turns.{refuse-number, then-none}
 use Rattle.tables.specs.declared.Table.{Table}
 use Rattle.tables.specs.declared.Table.the-variants.{Zones, Owners, Units, Accounts, Loads, Reservations}
 use Rattle.tables.specs.Shape.{number, width, limit, Tables, wordsOf}
 use Rattle.tables.specs.Judgement.{inTurn, roomFor}
-use Rattle.text.specs.Places.{stored}
 use Rattle.text.proofs.Stores.{stored-none}
 use Rattle.monthfile.specs.declared.Reading.{Reading}
 use Rattle.monthfile.specs.Form.{monthForm}
-use Rattle.monthfile.specs.Reading.{Outcome, got, refused, Rows, Contents, reading}
-use Rattle.monthfile.specs.Calls.{nth, fullSize, readRoom, readOutcome, readAnswer, tablesIn, filled, Reads}
+use Rattle.monthfile.specs.Reading.{Outcome, got, refused, Contents, reading}
+use Rattle.monthfile.specs.Calls.{fullSize, readRoom, readOutcome, readAnswer, tablesIn, filled, Reads}
 use Rattle.monthfile.specs.Walks.{JudgedAs, Body, Ready, FilledFrom}
 
 pub room-short : (output needed lent : ℕ) → lent < needed → refuse answers.ROOM output 0 ≡ roomFor output needed lent

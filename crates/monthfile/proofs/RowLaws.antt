@@ -1,27 +1,18 @@
 -- Rows, first lines and tables read as their text, and what reads so is their text: for every form.
 -- Assumes nothing.
 use mathlib.Core.Path.{_≡_, refl, sym, ap, ap₂, _∙_, subst}
-use mathlib.Core.Logic.{_⊎_, inl, inr, ⊎-elim, _≢_}
-use mathlib.Core.Bool.{Bool, true, false, cond, true≢false}
-use mathlib.Core.List.{List, [], _∷_, _++_, append-assoc, append-nil}
-use Prim.Native.Nat.{ℕ, zero, suc, _+_, _-_, _*_, _≤_, _<_}
+use mathlib.Core.List.{List, [], _∷_, _++_, append-assoc}
+use Prim.Native.Nat.{ℕ, zero, suc, _+_, _-_, _*_, _≤_}
 use native.Mathlib.Nat.{suc-mul, zero-mul}
 use native.Mathlib.Omega.{arith}
-use lib.Dec.{ltb, eqb}
 use lib.ListN.{length, take, drop, length-append, take-append-drop, length-drop}
 use lib.Seq.{length-take-le, take-at, drop-at}
-use borrow.Author.Tests.{lt-ltb, le-ltb, eq-eqb, ne-eqb, ltb-true, ltb-false, eqb-true, eqb-false}
-use Rattle.lists.specs.Sums.{at}
-use Rattle.lists.proofs.Ranks.{true-or-false, lt-or-le}
-use Rattle.answer.specs.declared.Answer.{Answer}
-use Rattle.text.specs.Numbers.{Found, found, missing, bound, Below}
-use Rattle.text.specs.Lines.{equals, apart, line, lineText}
-use Rattle.text.proofs.Numbers.{never}
+use Rattle.text.specs.Numbers.{Found, found, missing, Below}
+use Rattle.text.specs.Lines.{line, lineText}
 use Rattle.text.proofs.Below.{below-none, below-append, below-take, below-drop}
-use Rattle.text.proofs.Lines.{line-text, line-back, Line, line-apart}
-use Rattle.monthfile.specs.Form.{Kind, Form}
-use Rattle.monthfile.specs.Reading.{Outcome, got, refused, onward, Rows, RowsRead, rowsFrom, rows, headFrom, heads, tableFrom, tables, Contents, rowsIn, ending, reading}
-use Rattle.monthfile.specs.Writing.{rowsText, headsText, tablesText, fileText, Fits, AllFit, Within}
+use Rattle.text.proofs.Lines.{line-text, line-back, Line}
+use Rattle.monthfile.specs.Reading.{RowsRead, rows}
+use Rattle.monthfile.specs.Writing.{rowsText}
 
 pub rows-none : (key : List ℕ) (width : ℕ) (s : List ℕ) → rows key width 0 s ≡ record { count = 0; words = []; rest = s }
 unfolding rows

@@ -2,10 +2,9 @@
 -- Assumes nothing.
 use mathlib.Core.Path.{_≡_, refl, sym, ap, ap₂, _∙_, subst}
 use mathlib.Core.Logic.{_≢_}
-use mathlib.Core.List.{List, [], _∷_, _++_}
-use Prim.Native.Nat.{ℕ, zero, suc, _+_, _-_, _*_, _≤_, _<_, min}
-use native.Mathlib.Nat.{suc-mul, add-zero}
-use native.Mathlib.Numerals.{add-one}
+use mathlib.Core.List.{List, [], _++_}
+use Prim.Native.Nat.{ℕ, suc, _+_, _-_, _*_, _≤_, _<_}
+use native.Mathlib.Nat.{suc-mul}
 use native.Mathlib.Omega.{arith}
 use lib.ListN.{length, take, drop, length-append}
 use lib.Seq.{drop-drop}
@@ -14,10 +13,9 @@ use Rattle.text.specs.Lines.{line, lineText}
 use Rattle.text.specs.Places.{LineAt, Taken, fieldsOf, restOf, stored, Put, Sized}
 use Rattle.text.proofs.Lines.{Line, line-back}
 use Rattle.text.proofs.Stores.{stored-append, put-append, put-nothing, sized-append}
-use Rattle.monthfile.specs.declared.row.Counted.{Counted}
 use Rattle.monthfile.specs.Reading.{RowsRead, rows}
 use Rattle.monthfile.specs.Writing.{rowsText}
-use Rattle.monthfile.specs.Walks.{CountedAt, RowsTaken}
+use Rattle.monthfile.specs.Walks.{CountedAt}
 use Rattle.monthfile.proofs.RowLaws.{rows-none, rows-stop, rows-on, withRow}
 
 pub mul-down : (left width : ℕ) → 0 < left → left * width ≡ (left - 1) * width + width

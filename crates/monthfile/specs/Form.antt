@@ -33,7 +33,7 @@ key Reservations = bytes "ptp"
 abbrev pub kindOf : Table → Kind
 kindOf t = record { key = key t; width = width t; limit = limit t; table = number t }
 
--- "in this order: `month`, `days`, `nonzone`, then all [rows], then `end`"
+-- "in this order: `month`, `days`, `nonzone`, then all .. lines, then `end`"
 abbrev pub monthForm : Form
 monthForm =
     record {

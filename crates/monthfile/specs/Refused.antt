@@ -19,12 +19,12 @@ abbrev pub Full : Tables → Table → Type 0
 Full lent table = limit table * width table ≤ length (wordsOf lent table)
 
 module _ (text : List ℕ) (lent : Tables) (a : Answer) where
-  -- "ROOM, naming the first short table .. TEXT has table 0 and, as row, the offset .. COUNT (row is the limit)"
+  -- "(ROOM, naming the first short table)", "TEXT has table 0 and, as row, the offset ..", "COUNT (row is the limit)"
   pub data ReadRefused : Type 0 where
     by-room : (table : Table) → a ≡ refusal ROOM (number table) 0 → ((earlier : Table) → number earlier < number table → Full lent earlier)
         → ¬ Full lent table → ReadRefused
     by-text : (offset : ℕ) → a ≡ refusal TEXT head offset → offset ≤ length text → ((table : Table) → Full lent table) → ReadRefused
-    by-count : (table : Table) → a ≡ refusal COUNT (number table) (limit table) → ((table : Table) → Full lent table) → ReadRefused
+    by-count : (table : Table) → a ≡ refusal COUNT (number table) (limit table) → ((every : Table) → Full lent every) → ReadRefused
 
 module _ (c : Contents) (t : Tables) (room : ℕ) (a : Answer) where
   -- "Writing refuses with COUNT (the first bad table), then ROOM (table 0)"

@@ -10,7 +10,7 @@ use Rattle.answer.specs.declared.Answer.{Answer}
 use Rattle.answer.specs.Turns.{accepted}
 use Rattle.tables.specs.declared.Table.{Table}
 use Rattle.tables.specs.Shape.{width, limit, Tables, wordsOf}
-use Rattle.text.specs.Numbers.{Found, found, missing}
+use Rattle.text.specs.Numbers.{Found}
 use Rattle.text.specs.Places.{LineAt, fieldsOf, stored}
 use Rattle.monthfile.specs.declared.row.Counted.{Counted}
 use Rattle.monthfile.specs.declared.judge.Walk.{Walk}

@@ -2,7 +2,7 @@
 -- Assumes nothing.
 use mathlib.Core.Path.{_≡_, refl, sym, ap, subst, _∙_}
 use mathlib.Core.Logic.{inl, inr, ⊎-elim}
-use Prim.Native.Nat.{ℕ, _<_}
+use Prim.Native.Nat.{ℕ}
 use Rattle.answer.specs.declared.Answer.{Answer}
 use Rattle.answer.specs.Numbers.{divisions}
 use Rattle.answer.specs.Turns.{accepted, refuse, _then_}
@@ -26,7 +26,7 @@ use Rattle.settlement.specs.Settled.{
   divisionsInTurn,
   answerOf,
 }
-use Rattle.settlement.specs.Accepted.{IsService, Accepted}
+use Rattle.settlement.specs.Accepted.{Accepted}
 
 -- two answers in turn of which neither refuses
 both-accepted : {a b : Answer} → a ≡ accepted → b ≡ accepted → (a then b) ≡ accepted

@@ -1,19 +1,12 @@
 -- A loop that adds f 0, f 1, .. up, and sums of which some positions count.
 -- Assumes nothing.
-use mathlib.Core.Path.{_≡_, refl, sym, ap, ap₂, _∙_}
+use mathlib.Core.Path.{_≡_, sym, ap, ap₂, _∙_}
 use mathlib.Core.Bool.{Bool}
-use mathlib.Core.List.{List}
-use Prim.Native.Nat.{ℕ, suc, _+_, _≤_, _<_, _^_}
+use Prim.Native.Nat.{ℕ, _+_, _≤_, _<_, _^_}
 use native.Mathlib.Nat.{le-trans, lt-of-le-of-lt, le-of-eq, le-antisymm}
-use native.Mathlib.Numerals.{add-one}
 use native.Mathlib.Omega.{arith}
-use lib.Dec.{eqb}
-use Rattle.lists.specs.Sums.{sumTo, at, when}
+use Rattle.lists.specs.Sums.{sumTo, when}
 use Rattle.lists.proofs.Sums.{sum-none, sum-suc, sum-le, when-le, sum-within}
-use Rattle.tables.specs.declared.Table.{Table}
-use Rattle.tables.specs.Shape.{rows}
-use Rattle.tables.specs.Columns.{entry}
-use Rattle.settlement.specs.Steps.{summed, held, Summable, Holdable}
 
 -- the first i of n values are added up
 pub record Added (n : ℕ) (f : ℕ → ℕ) (i sum : ℕ) : Type 0 where

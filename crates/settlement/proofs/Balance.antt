@@ -1,16 +1,15 @@
 -- Where the money of a good month lies: every unit has one zone and one owner, every account one zone or zone 0, so sums over
 -- zones and owners are sums over units and accounts.
 -- Assumes nothing.
-use mathlib.Core.Path.{_≡_, refl, sym, ap, ap₂, _∙_}
+use mathlib.Core.Path.{_≡_, sym, ap, ap₂, _∙_}
 use mathlib.Core.Logic.{⊎-elim, _≢_}
-use mathlib.Core.Bool.{Bool, true, false}
-use Prim.Native.Nat.{ℕ, _+_, _≤_, _<_}
+use Prim.Native.Nat.{ℕ, _+_, _<_}
 use native.Mathlib.Nat.{zero-add}
 use native.Mathlib.Omega.{arith}
 use lib.Dec.{eqb}
 use borrow.Author.Tests.{eq-eqb, ne-eqb}
 use Rattle.lists.specs.Sums.{sumTo, when}
-use Rattle.lists.proofs.Sums.{sum-eq, sum-add, sum-swap, sum-zero}
+use Rattle.lists.proofs.Sums.{sum-eq, sum-add, sum-swap}
 use Rattle.answer.proofs.Turns.{zero-or-not}
 use Rattle.tables.specs.declared.Table.the-variants.{Zones, Owners, Units, Accounts}
 use Rattle.tables.specs.Shape.{Tables}

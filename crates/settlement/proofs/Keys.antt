@@ -1,10 +1,10 @@
 -- Rows with numbers that strictly ascend: no two rows have one number, so a sum over the rows with a number has one row at most.
 -- Assumes nothing.
-use mathlib.Core.Path.{_≡_, refl, sym, ap, _∙_}
-use mathlib.Core.Logic.{_⊎_, inl, inr, ⊎-elim, _≢_}
-use mathlib.Core.Bool.{Bool, true, false}
-use Prim.Native.Nat.{ℕ, zero, suc, _+_, _-_, _*_, _≤_, _<_}
-use native.Mathlib.Nat.{le-step, lt-suc-self, le-refl, le-of-suc-le}
+use mathlib.Core.Path.{_≡_, refl, sym, _∙_}
+use mathlib.Core.Logic.{_⊎_, ⊎-elim, _≢_}
+use mathlib.Core.Bool.{true, false}
+use Prim.Native.Nat.{ℕ, zero, suc, _-_, _*_, _≤_, _<_}
+use native.Mathlib.Nat.{le-step, lt-suc-self, le-of-suc-le}
 use native.Mathlib.Omega.{arith}
 use lib.Dec.{eqb}
 use borrow.Author.Tests.{eq-eqb, ne-eqb, eqb-true}
@@ -31,6 +31,13 @@ module _ (n : ℕ) (key : ℕ → ℕ) (up : Ascends n key) where
       sum-one n (λ i. when (eqb x (key i)) v) k h
       (λ i b d. rw (ne-eqb x (key i) (λ q. distinct i k b h d (sym q ∙ sym e))))
       ∙ (rw (eq-eqb x (key k) (sym e)))
+
+  -- .. and so is what the rows with row k's number have
+  pub entry-of : (f : ℕ → ℕ) (k x : ℕ) → k < n → key k ≡ x → sumTo n (λ i. when (eqb (key i) x) (f i)) ≡ f k
+  entry-of f k x h e =
+      sum-one n (λ i. when (eqb (key i) x) (f i)) k h
+      (λ i b d. rw (ne-eqb (key i) x (λ q. distinct i k b h d (q ∙ sym e))))
+      ∙ (rw (eq-eqb (key k) x e))
 
 -- where no row has the number x, nothing is in the sum
 pub no-row-of : (n : ℕ) (key : ℕ → ℕ) (x v : ℕ) → ((i : ℕ) → i < n → x ≢ key i) → sumTo n (λ i. when (eqb x (key i)) v) ≡ 0

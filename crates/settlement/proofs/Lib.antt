@@ -1,4 +1,3 @@
-pub mod Figures
 pub mod Keys
 pub mod Adding
 pub mod Fronts
@@ -11,5 +10,6 @@ pub mod Ranges
 pub mod Balance
 pub mod Accepting
 pub mod Parts
+pub mod Refusing
 pub mod Promises
 pub mod Unique

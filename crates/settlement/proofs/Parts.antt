@@ -1,12 +1,11 @@
 -- The two parts of an account's use, and the divisions by them: a zone's accounts have no non-zone part, zone 0's no zone part,
 -- and dividing by parts is dividing among those accounts alone by use.
 -- Assumes nothing.
-use mathlib.Core.Path.{_≡_, refl, sym, ap, ap₂, _∙_}
+use mathlib.Core.Path.{_≡_, sym, ap, _∙_}
 use mathlib.Core.Logic.{⊎-elim, _≢_}
-use mathlib.Core.Bool.{Bool, true, false, not}
-use mathlib.Core.List.{List}
-use Prim.Native.Nat.{ℕ, _+_, _≤_, _<_}
-use native.Mathlib.Nat.{zero-add, add-zero}
+use mathlib.Core.Bool.{true, false, not}
+use Prim.Native.Nat.{ℕ, _+_, _<_}
+use native.Mathlib.Nat.{add-zero}
 use native.Mathlib.Omega.{arith}
 use lib.Dec.{eqb}
 use borrow.Author.Tests.{eq-eqb, ne-eqb, eqb-true, eqb-false}
@@ -16,21 +15,21 @@ use Rattle.lists.proofs.Sums.{sum-eq, when-true, when-zero, when-false}
 use Rattle.lists.proofs.Ranks.{true-or-false}
 use Rattle.lists.proofs.Members.{kept-eq}
 use Rattle.division.specs.Shares.{shares}
-use Rattle.groups.specs.Groups.{Pots, alone, amount, isMember}
+use Rattle.groups.specs.Groups.{amount}
 use Rattle.groups.proofs.Members.{share-alone}
-use Rattle.groups.proofs.Laws.{from-own-group, amount-alone}
+use Rattle.groups.proofs.Laws.{from-own-group}
 use Rattle.service.specs.Service as service
 use Rattle.service.specs.Turn as turn
 use Rattle.service.proofs.Laws as laws
 use Rattle.service.proofs.Promises as promises
 use Rattle.tables.specs.declared.Table.the-variants.{Zones}
 use Rattle.tables.specs.Shape.{Tables}
-use Rattle.tables.specs.Columns.{zoneNumber, ownerZone, ownerRequirement, accountZone}
+use Rattle.tables.specs.Columns.{zoneNumber, ownerZone, accountZone}
 use Rattle.settlement.specs.Input.{Input, zoneCount, ownerCount, accountCount}
 use Rattle.settlement.specs.Accounts.{accountUse}
-use Rattle.settlement.specs.Network.{networkPots, networkCredit, chargesIn}
+use Rattle.settlement.specs.Network.{networkPots, networkCredit}
 use Rattle.settlement.specs.Services.{zonePart, nonzonePart, serviceIn, serviceCharge}
-use Rattle.settlement.specs.Accepted.{Good, IsService, Accepted}
+use Rattle.settlement.specs.Accepted.{Accepted}
 use Rattle.settlement.proofs.Keys.{distinct}
 use Rattle.settlement.proofs.Ranges.{zones-ascend}
 

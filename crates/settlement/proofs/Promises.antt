@@ -1,11 +1,12 @@
--- What is promised of every accepted month. Nothing else stands here; each proof puts together what the division, the groups, the
+-- What is promised of every settlement, and of every accepted month. Nothing else stands here; each proof puts together what the division, the groups, the
 -- services and the tables promise.
 -- Assumes nothing.
-use mathlib.Core.Path.{_≡_, refl, sym, ap, ap₂, _∙_}
+use mathlib.Core.Path.{_≡_, refl, sym, ap, _∙_}
 use mathlib.Core.Logic.{_↔_, ⊎-elim, _≢_}
-use mathlib.Core.Bool.{Bool, true, false}
-use Prim.Native.Nat.{ℕ, _+_, _<_}
+use mathlib.Core.Bool.{true, false}
+use Prim.Native.Nat.{ℕ, _+_, _<_, _*_, _≤_}
 use native.Mathlib.Omega.{arith}
+use mathlib.Core.List.{List}
 use lib.Dec.{eqb}
 use borrow.Author.Tests.{eq-eqb, ne-eqb, eqb-true}
 use Rattle.lists.specs.Sums.{sumTo, at, when, count}
@@ -15,24 +16,27 @@ use Rattle.lists.proofs.Ranks.{true-or-false}
 use Rattle.answer.specs.declared.Answer.{Answer}
 use Rattle.answer.specs.Numbers.{BIG, BASE}
 use Rattle.division.specs.Shares.{shares}
-use Rattle.groups.specs.Groups.{amount, amounts, alone}
-use Rattle.groups.proofs.Members.{listed-add-up}
-use Rattle.groups.proofs.Laws.{pots-divided, pot-divided, members-have-all, amount-alone}
+use Rattle.groups.specs.Groups.{amount, alone}
+use Rattle.groups.proofs.Members.{listed-add-up, listed-none}
+use Rattle.groups.proofs.Laws.{pots-divided, pot-divided, members-have-all, amount-alone, weightless-none-at-all}
 use Rattle.service.specs.Service.{zoneSide, nonzoneSide, nonzonePot, zoneShare, nonzoneShare}
 use Rattle.service.specs.Turn.{splitRefusal, shareRefusal}
 use Rattle.service.specs.Turn as turn
 use Rattle.service.proofs.Promises as service
 use Rattle.tables.specs.Shape.{chargeWidth, creditWidth, Tables}
-use Rattle.tables.specs.Columns.{zoneNumber, ownerNumber, ownerZone, ownerRequirement, unitOwner, accountZone}
+use Rattle.tables.specs.Columns.{zoneNumber, ownerNumber, ownerZone, ownerRequirement, unitOwner, accountZone, zoneRate, accountNumber, reservationAccount, reservationReserved, reservationCurtailed}
 use Rattle.tables.specs.Limits.{blackStart, reactive}
-use Rattle.settlement.specs.Input.{Input, zoneCount, ownerCount, unitCount, accountCount}
-use Rattle.settlement.specs.Accounts.{accountUse}
-use Rattle.settlement.specs.Network.{networkCharge, chargesIn, networkPots, networkCredit, requirements, nonzoneCredit, nonzoneRefusal}
+use Rattle.settlement.specs.Input.{Input, zoneCount, ownerCount, unitCount, accountCount, reservationCount}
+use Rattle.settlement.specs.Accounts.{accountUse, reserved, curtailed}
+use Rattle.settlement.specs.Network.{chargesIn, networkPots, networkCredit, requirements, nonzoneCredit, nonzoneRefusal, rate}
 use Rattle.settlement.specs.Services.{partOf, creditIn, serviceCredit, zonePot, serviceIn, serviceCharge}
-use Rattle.settlement.specs.Settled.{answerOf, chargeOf, creditOf}
+use Rattle.settlement.specs.Settled.{answerOf, chargeOf, creditOf, Settled}
 use Rattle.settlement.specs.Accepted.{IsService, Accepted}
 use Rattle.settlement.proofs.Accepting.{answer-accepted, accepted-answer}
 use Rattle.settlement.proofs.Balance as balance
+use Rattle.settlement.specs.Refused.{Refused, Places}
+use Rattle.settlement.proofs.Refusing as refusing
+use Rattle.settlement.proofs.Ranges as ranges
 use Rattle.settlement.proofs.Parts as parts
 
 module _ (m : Input) (lentCharges lentCredits : ℕ) where
@@ -43,8 +47,57 @@ module _ (m : Input) (lentCharges lentCredits : ℕ) where
     λ all. ap (λ (r : Answer). r .number) (accepted-answer m lentCharges lentCredits all),
   )
 
+  -- a refused month names the rule of the tables that is broken, or the first division that is not fine, by the paper's place
+  pub refused-why : answerOf m lentCharges lentCredits .number ≢ 0 → Refused m lentCharges lentCredits (answerOf m lentCharges lentCredits)
+  refused-why = refusing.refused-why m lentCharges lentCredits
+
+-- the places of the services' divisions are the paper's
+pub places-are-the-papers : (m : Input) → Places m
+places-are-the-papers = refusing.places
+
+-- the words of the lent outputs after a settlement
+module _ {m : Input} {charges chargesAfter credits creditsAfter : List ℕ} {r : Answer} (settled : Settled m charges chargesAfter credits creditsAfter r) where
+  -- a refusal changes none
+  pub refusal-changes-nothing : r .number ≢ 0 → (chargesAfter ≡ charges) × (creditsAfter ≡ credits)
+  refusal-changes-nothing = refusing.refused-words settled
+
+  -- acceptance writes each account's three charges and each owner's four credits ..
+  pub charges-are-written : r .number ≡ 0 → (column a : ℕ) → column < chargeWidth → a < accountCount m
+      → at chargesAfter (a * chargeWidth + column) ≡ chargeOf m column a
+  charges-are-written = refusing.charge-word settled
+
+  pub credits-are-written : r .number ≡ 0 → (column o : ℕ) → column < creditWidth → o < ownerCount m
+      → at creditsAfter (o * creditWidth + column) ≡ creditOf m column o
+  credits-are-written = refusing.credit-word settled
+
+  -- .. and no word behind them
+  pub charges-behind-stay : r .number ≡ 0 → (k : ℕ) → accountCount m * chargeWidth ≤ k → at chargesAfter k ≡ at charges k
+  charges-behind-stay = refusing.behind-charges settled
+
+  pub credits-behind-stay : r .number ≡ 0 → (k : ℕ) → ownerCount m * creditWidth ≤ k → at creditsAfter k ≡ at credits k
+  credits-behind-stay = refusing.behind-credits settled
+
 module _ {m : Input} {lentCharges lentCredits : ℕ} (all : Accepted m lentCharges lentCredits) where
-  open Tables (m .tables) using (zones, owners, units, accounts)
+  open Tables (m .tables) using (zones, owners, units, accounts, reservations)
+
+  -- an account's rate is its zone's, or the non-zone rate; its energy is that of its own reservation
+  pub rate-is-its-zones : (a z : ℕ) → z < zoneCount m → accountZone accounts a ≡ zoneNumber zones z → rate m a ≡ zoneRate zones z
+  rate-is-its-zones = ranges.rate-of-zone m lentCharges lentCredits (all .good)
+
+  pub rate-of-zone-0 : (a : ℕ) → accountZone accounts a ≡ 0 → rate m a ≡ m .nonzone
+  rate-of-zone-0 = ranges.rate-at-the-border m lentCharges lentCredits (all .good)
+
+  pub energy-is-its-reservations : (a r : ℕ) → r < reservationCount m → reservationAccount reservations r ≡ accountNumber accounts a
+      → (reserved m a ≡ reservationReserved reservations r) × (curtailed m a ≡ reservationCurtailed reservations r)
+  energy-is-its-reservations = ranges.reservation-of m lentCharges lentCredits (all .good)
+
+  -- an owner without requirement has no network credit
+  pub no-requirement-no-credit : (o : ℕ) → o < ownerCount m → ownerRequirement owners o ≡ 0 → (networkCredit m o ≡ 0) × (nonzoneCredit m o ≡ 0)
+  unfolding networkCredit nonzoneCredit requirements nonzoneRefusal
+  no-requirement-no-credit o b e = (
+    weightless-none-at-all (networkPots m) (all .zones-fine) o b e,
+    listed-none (chargesIn m 0) (ownerCount m) (ownerRequirement owners) (all .nonzone-fine) o b e,
+  )
 
   -- in each zone the network charges of its accounts add up to what its owners have from it ..
   pub zone-charges-are-credits-from-it : (z : ℕ) → z < zoneCount m

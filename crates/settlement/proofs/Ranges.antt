@@ -1,49 +1,32 @@
 -- What the figures of a good month can be at most: from the range of each entry, from one load a day and account, and from one
 -- reservation an account.
 -- Assumes nothing.
-use mathlib.Core.Path.{_≡_, refl, sym, ap, _∙_}
-use mathlib.Core.Logic.{⊎-elim, _≢_}
 use mathlib.Core.Bool.{Bool, true, false, cond}
-use Prim.Native.Nat.{ℕ, _+_, _*_, _^_, _≤_, _<_}
+use Prim.Native.Nat.{ℕ, _*_, _^_, _≤_, _<_}
 use native.Mathlib.Nat.{le-trans, le-of-eq, le-refl, lt-of-le-of-lt, mul-le-mul-right}
 use native.Mathlib.Omega.{arith}
+use mathlib.Core.Path.{_≡_, sym}
+use mathlib.Core.Logic.{_≢_}
+use borrow.Author.Tests.{eq-eqb, ne-eqb}
 use lib.Dec.{eqb}
 use Rattle.lists.specs.Sums.{sumTo, when}
 use Rattle.lists.proofs.Sums.{sum-le, sum-const}
-use Rattle.lists.proofs.Ranks.{true-or-false}
 use Rattle.tables.specs.declared.Table.{Table}
 use Rattle.tables.specs.declared.Table.the-variants.{Zones, Owners, Units, Accounts, Loads, Reservations}
 use Rattle.tables.specs.Shape.{rows, width, limit, Tables, wordsOf}
-use Rattle.tables.specs.Columns.{
-  entry,
-  zoneNumber,
-  zoneRate,
-  ownerNumber,
-  ownerRequirement,
-  unitRequirement,
-  unitReserve,
-  unitService,
-  accountNumber,
-  accountZone,
-  loadAccount,
-  loadDay,
-  loadContribution,
-  reservationAccount,
-  reservationReserved,
-  reservationCurtailed,
-}
+use Rattle.tables.specs.Columns.{entry, zoneNumber, zoneRate, ownerNumber, unitRequirement, accountNumber, accountZone, loadAccount, loadDay, loadContribution, reservationAccount, reservationReserved, reservationCurtailed}
 use Rattle.tables.specs.Good.{Above}
 use Rattle.tables.proofs.Promises.{strictly-ascend}
-use Rattle.month.specs.Limits.{mostRate, mostAnnual, mostLoad, mostEnergy, mostDays, mostContributions}
+use Rattle.month.specs.Limits.{mostRate, mostLoad, mostEnergy, mostContributions}
 use Rattle.month.proofs.Months.{InYear, month-within, twelfth-within}
 use Rattle.month.proofs.Quantities as quantities
-use Rattle.settlement.specs.Input.{Input, zoneCount, ownerCount, unitCount, accountCount}
+use Rattle.settlement.specs.Input.{Input, zoneCount, ownerCount, unitCount}
 use Rattle.settlement.specs.Accounts.{contributions, reserved, curtailed, accountUse}
-use Rattle.settlement.specs.Network.{rateOf, rate, networkCharge, chargesIn}
-use Rattle.settlement.specs.Services.{unitCredit, creditIn, zonePart, nonzonePart}
+use Rattle.settlement.specs.Network.{rateOf, rate, networkCharge}
+use Rattle.settlement.specs.Services.{unitCredit}
 use Rattle.settlement.specs.Accepted.{Good}
 use Rattle.settlement.specs.Steps.{summed, Summable, Settleable}
-use Rattle.settlement.proofs.Keys.{Ascends, one-row-at-most, one-row-a-day}
+use Rattle.settlement.proofs.Keys.{Ascends, entry-of, one-row-at-most, one-row-a-day}
 
 -- so many figures, each at most so much
 pub at-most : (n limit most : ℕ) (f : ℕ → ℕ) → n ≤ limit → ((i : ℕ) → i < n → f i ≤ most) → sumTo n f ≤ limit * most
@@ -61,6 +44,29 @@ module _ (m : Input) (lentCharges lentCredits : ℕ) (good : Good m lentCharges 
 
   pub owners-ascend : Ascends (ownerCount m) (ownerNumber owners)
   owners-ascend = above Owners
+
+  -- the rate of an account is its zone's, or the non-zone rate ..
+  pub rate-of-zone : (a z : ℕ) → z < zoneCount m → accountZone accounts a ≡ zoneNumber zones z → rate m a ≡ zoneRate zones z
+  unfolding rate rateOf
+  rate-of-zone a z b e =
+      let least : 1 ≤ zoneNumber zones z = good .tables Zones z b .in-range .zone .least in
+      let inside : accountZone accounts a ≢ 0 = λ q. omega (arith, least, e, q) in
+      sym
+      (rw (ne-eqb (accountZone accounts a) 0 inside)
+      (sym (entry-of (zoneCount m) (zoneNumber zones) zones-ascend (zoneRate zones) z (accountZone accounts a) b (sym e))))
+
+  pub rate-at-the-border : (a : ℕ) → accountZone accounts a ≡ 0 → rate m a ≡ m .nonzone
+  unfolding rate
+  rate-at-the-border a e = rw (eq-eqb (accountZone accounts a) 0 e)
+
+  -- .. and its energy that of its own reservation
+  pub reservation-of : (a r : ℕ) → r < rows Reservations reservations → reservationAccount reservations r ≡ accountNumber accounts a
+      → (reserved m a ≡ reservationReserved reservations r) × (curtailed m a ≡ reservationCurtailed reservations r)
+  unfolding reserved curtailed
+  reservation-of a r b e = (
+    entry-of (rows Reservations reservations) (reservationAccount reservations) (above Reservations) (reservationReserved reservations) r (accountNumber accounts a) b e,
+    entry-of (rows Reservations reservations) (reservationAccount reservations) (above Reservations) (reservationCurtailed reservations) r (accountNumber accounts a) b e,
+  )
 
   pub in-year : InYear (m .month) (m .days)
   in-year = month-within (m .month) (m .days) (good .frame .month-known)

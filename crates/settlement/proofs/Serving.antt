@@ -1,31 +1,29 @@
 -- One service of the code's columns: the units' credits held by zone and by owner are the pots and the owners' credits, and what
 -- is charged over the columns is charged over the month.
 -- Assumes nothing.
-use mathlib.Core.Path.{_≡_, refl, sym, ap, ap₂, _∙_}
+use mathlib.Core.Path.{_≡_, refl, sym, ap, _∙_}
 use mathlib.Core.Bool.{Bool, not}
 use mathlib.Core.List.{List, []}
-use Prim.Native.Nat.{ℕ, _+_, _*_, _^_, _≤_, _<_}
+use Prim.Native.Nat.{ℕ, _*_, _^_, _≤_, _<_}
 use native.Mathlib.Nat.{le-trans, le-of-eq, lt-of-le-of-lt, lt-of-lt-of-le}
 use native.Mathlib.Omega.{arith}
 use lib.Dec.{eqb}
 use lib.ListN.{length, take}
 use lib.Seq.{ext-getD, getD-take, length-take-le}
-use Rattle.lists.specs.Sums.{sumTo, at, total, when}
+use Rattle.lists.specs.Sums.{at, total, when}
 use Rattle.lists.specs.Entries.{listed, put}
-use Rattle.lists.proofs.Sums.{sum-eq, sum-le, when-le}
+use Rattle.lists.proofs.Sums.{sum-eq, when-le}
 use Rattle.lists.proofs.Entries.{length-listed, at-listed, total-listed, put-eq, put-long, at-put}
 use Rattle.answer.specs.declared.Answer.{Answer}
-use Rattle.service.specs.Service.{Service, serviceOf}
+use Rattle.service.specs.Service.{serviceOf}
 use Rattle.service.specs.Turn.{Served}
-use Rattle.service.specs.Steps.{Lent}
-use Rattle.service.proofs.Same.{Same, same-served, filled}
+use Rattle.service.proofs.Same.{same-served, filled}
 use Rattle.month.proofs.Months.{twelfth-within}
 use Rattle.tables.specs.declared.Table.the-variants.{Zones, Owners, Units, Accounts}
 use Rattle.tables.specs.Shape.{rows, limit}
-use Rattle.tables.specs.Columns.{zoneNumber, ownerNumber, unitOwner, unitZone, unitService, unitRequirement, unitReserve, accountZone}
-use Rattle.settlement.specs.Input.{Input, unitCount}
+use Rattle.tables.specs.Columns.{zoneNumber, ownerNumber, unitOwner, unitZone, unitService, unitRequirement, accountZone}
 use Rattle.settlement.specs.Services.{unitCredit, creditIn, partOf, serviceCredit, zonePot}
-use Rattle.settlement.specs.Steps.{held, unitsInput, poolFrom, serviceFrom, Holdable, Creditable, Credited, Usable, PartsFilled}
+use Rattle.settlement.specs.Steps.{held, unitsInput, poolFrom, Holdable, Creditable, Credited, Usable}
 use Rattle.settlement.proofs.Ranges.{at-most}
 
 -- the first words of a list, listed

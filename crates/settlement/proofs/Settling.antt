@@ -2,17 +2,17 @@
 -- of the month; and a good month has figures that can all be found.
 -- Assumes nothing.
 use mathlib.Core.Path.{_≡_, refl, sym, ap, ap₂, _∙_}
-use mathlib.Core.Bool.{Bool, cond, not}
-use mathlib.Core.List.{List, []}
-use Prim.Native.Nat.{ℕ, zero, suc, _+_, _*_, _/_, _%_, _^_, _≤_, _<_}
+use mathlib.Core.Bool.{not}
+use mathlib.Core.List.{List}
+use Prim.Native.Nat.{ℕ, _^_, _≤_}
 use native.Mathlib.Nat.{le-trans, le-of-eq, lt-of-le-of-lt}
 use native.Mathlib.Omega.{arith}
 use lib.Dec.{eqb}
 use lib.ListN.{length}
-use borrow.Author.Tests.{eq-eqb, ne-eqb}
-use Rattle.lists.specs.Sums.{sumTo, at, total, when}
+use borrow.Author.Tests.{eq-eqb}
+use Rattle.lists.specs.Sums.{at, total, when}
 use Rattle.lists.specs.Entries.{listed, put}
-use Rattle.lists.proofs.Sums.{sum-eq, sum-le}
+use Rattle.lists.proofs.Sums.{sum-eq}
 use Rattle.lists.proofs.Entries.{length-listed, put-eq, put-long, at-put}
 use Rattle.answer.specs.declared.Answer.{Answer}
 use Rattle.answer.specs.Numbers.{divisions}
@@ -20,43 +20,19 @@ use Rattle.answer.specs.Turns.{refuse, _then_}
 use Rattle.answer.proofs.Turns.{then-none}
 use Rattle.division.specs.Limits.{sizeRefusal}
 use Rattle.division.specs.Shares.{shares}
-use Rattle.groups.specs.Groups.{groupsInTurn, amounts}
 use Rattle.groups.proofs.Same as groups
-use Rattle.service.specs.Service as service
 use Rattle.service.specs.Turn.{serviceInTurn, Served}
 use Rattle.service.proofs.Same as services
-use Rattle.tables.specs.declared.Table.the-variants.{Zones, Owners, Units, Accounts, Loads, Reservations}
-use Rattle.tables.specs.Shape.{rows, limit, chargeWidth, creditWidth, Tables}
-use Rattle.tables.specs.Columns.{zoneNumber, zoneRate, ownerRequirement, accountZone, accountNumber, loadContribution, reservationReserved, reservationCurtailed}
+use Rattle.tables.specs.declared.Table.the-variants.{Accounts}
+use Rattle.tables.specs.Shape.{limit, Tables}
+use Rattle.tables.specs.Columns.{zoneNumber, ownerRequirement, accountZone}
 use Rattle.tables.specs.Limits.{blackStart, reactive}
-use Rattle.month.specs.Limits.{mostRate, mostLoad, mostEnergy}
 use Rattle.settlement.specs.Input.{Input, zoneCount, ownerCount, accountCount}
 use Rattle.settlement.specs.Accounts.{contributions, reserved, curtailed, accountUse}
 use Rattle.settlement.specs.Network.{rateOf, rate, networkCharge, chargesIn, networkPots, networkCredit, requirements, nonzoneCredit, nonzoneRefusal}
 use Rattle.settlement.specs.Services.{unitCredit, creditIn, partOf, serviceCredit, zonePot, zonePart, nonzonePart, serviceIn, serviceCharge}
-use Rattle.settlement.specs.Settled.{blackStartPlace, reactivePlace, threeOf, fourOf, laid, networkInTurn, divisionsInTurn, chargeOf, creditOf, chargeWords, creditWords}
-use Rattle.settlement.specs.Accepted.{Good}
-use Rattle.settlement.specs.Steps.{
-  summed,
-  held,
-  Summable,
-  Holdable,
-  accountsInput,
-  unitsInput,
-  Filled,
-  potsFrom,
-  NetworkDivided,
-  Divisible,
-  serviceFrom,
-  Usable,
-  ServiceSettled,
-  Settleable,
-  Holds,
-  ForAccounts,
-  ForOwners,
-  MonthDivided,
-}
-use Rattle.settlement.proofs.Keys.{one-row-at-most}
+use Rattle.settlement.specs.Settled.{blackStartPlace, reactivePlace, networkInTurn, divisionsInTurn}
+use Rattle.settlement.specs.Steps.{held, accountsInput, unitsInput, Filled, potsFrom, NetworkDivided, Divisible, serviceFrom, Usable, ServiceSettled, Settleable, Holds, ForAccounts, ForOwners, MonthDivided}
 use Rattle.settlement.proofs.Ranges as ranges
 
 -- a column that n values were stored in holds them

@@ -4,4 +4,5 @@ pub mod Network
 pub mod Services
 pub mod Settled
 pub mod Accepted
+pub mod Refused
 pub mod Steps

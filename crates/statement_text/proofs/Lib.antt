@@ -6,6 +6,5 @@ pub mod Settling
 pub mod Stating
 pub mod Sizes
 pub mod Telling
-pub mod CaseS
 pub mod Promises
 pub mod Unique

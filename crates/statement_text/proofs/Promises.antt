@@ -1,23 +1,19 @@
 -- What is promised of every statement, beyond its definition. Nothing else stands here; the proofs cite `Totals`, `Stating`,
--- `Sizes`, `Telling` and `CaseS`.
+-- `Sizes` and `Telling`.
 -- Assumes nothing.
 use mathlib.Core.Path.{_≡_, ap, _∙_}
 use mathlib.Core.Logic.{_≢_}
 use mathlib.Core.List.{List}
-use Prim.Native.Nat.{ℕ, _*_, _≤_, _<_}
+use Prim.Native.Nat.{ℕ, _≤_, _<_}
 use lib.ListN.{length}
 use Rattle.answer.specs.declared.Answer.{Answer}
 use Rattle.answer.specs.Turns.{refuse}
-use Rattle.tables.specs.declared.Table.the-variants.{Owners, Accounts}
-use Rattle.tables.specs.Shape.{limit, chargeWidth, creditWidth}
 use Rattle.text.specs.Bytes.{bytes}
 use Rattle.text.specs.Numbers.{digits, decimal}
 use Rattle.text.specs.Lines.{fieldsText, lineText}
 use Rattle.monthfile.specs.Form.{monthForm}
 use Rattle.monthfile.specs.Reading.{got, Contents, reading}
 use Rattle.settlement.specs.Input.{Input}
-use Rattle.settlement.specs.Accepted.{Accepted}
-use Rattle.settlement.proofs.Accepting.{answer-accepted}
 use Rattle.statement_text.specs.Statement.{
   allCharges,
   allCredits,
@@ -34,22 +30,16 @@ use Rattle.statement_text.proofs.Totals as totals
 use Rattle.statement_text.proofs.Stating as stating
 use Rattle.statement_text.proofs.Sizes as sizes
 use Rattle.statement_text.proofs.Telling as telling
-use Rattle.statement_text.proofs.CaseS.{caseFile, caseStatement}
-use Rattle.statement_text.proofs.CaseS as cases
-
-fine : (m : Input) → settledAnswer m .number ≡ 0 → Accepted m (limit Accounts * chargeWidth) (limit Owners * creditWidth)
-unfolding settledAnswer
-fine m e = answer-accepted m (limit Accounts * chargeWidth) (limit Owners * creditWidth) e
 
 -- the two numbers of `total` are equal for every accepted month
 pub totals-are-equal : (m : Input) → settledAnswer m .number ≡ 0 → allCharges m ≡ allCredits m
-totals-are-equal m e = totals.totals-equal (fine m e)
+totals-are-equal m e = totals.totals-equal (stating.fine m e)
 
 -- two accepted months with the same statement have the same accounts with the same charges and the same owners with the same
 -- credits: where a charge or a credit differs, so do the statements
 pub statements-tell-figures-apart : (m m′ : Input) → settledAnswer m .number ≡ 0 → settledAnswer m′ .number ≡ 0
     → statementLines m ≡ statementLines m′ → SameFigures m m′
-statements-tell-figures-apart m m′ e e′ = telling.same-statement (fine m e) (fine m′ e′)
+statements-tell-figures-apart m m′ e e′ = telling.same-statement (stating.fine m e) (stating.fine m′ e′)
 
 -- an accepted month's statement is never the line of a refusal
 pub accepted-is-no-refusal : (m : Input) (a : Answer) → statementLines m ≢ refuseLine a
@@ -68,7 +58,3 @@ too-long-is-refused text h = stating.long-text text h
 -- no statement has more than 10,128 bytes, so that no room of that size is too short
 pub statement-is-short : (text : List ℕ) → length (statementOf text) ≤ 10128
 statement-is-short = sizes.statement-short
-
--- case S whole, bytes in and bytes out
-pub case-s : statementOf caseFile ≡ caseStatement
-case-s = cases.case-s

@@ -19,26 +19,7 @@ use Rattle.tables.specs.declared.Table.the-variants.{Zones, Owners, Units, Acco
 use Rattle.text.specs.Numbers.{Found, found, missing}
 use Rattle.text.specs.Lines.{line}
 use Rattle.monthfile.specs.Form.{Kind, Form, kindOf, monthForm}
-use Rattle.monthfile.specs.Reading.{
-  Outcome,
-  got,
-  refused,
-  onward,
-  unfit,
-  Rows,
-  RowsRead,
-  rows,
-  headFrom,
-  heads,
-  tableFrom,
-  tables,
-  Contents,
-  rowsIn,
-  closed,
-  endFrom,
-  ending,
-  reading,
-}
+use Rattle.monthfile.specs.Reading.{Outcome, got, refused, onward, unfit, Rows, RowsRead, rows, headFrom, heads, tables, Contents, rowsIn, closed, endFrom, ending, reading}
 use Rattle.monthfile.specs.Writing.{Fits, AllFit}
 use Rattle.monthfile.specs.Calls.{nth, placeOf}
 use Rattle.monthfile.proofs.Forms.{file-back}

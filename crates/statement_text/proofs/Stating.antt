@@ -16,6 +16,8 @@ use Rattle.tables.specs.Shape.{width, limit, chargeWidth, creditWidth, tablesOf
 use Rattle.monthfile.specs.Form.{monthForm}
 use Rattle.monthfile.specs.Reading.{Outcome, got, refused, Contents, reading}
 use Rattle.settlement.specs.Input.{Input}
+use Rattle.settlement.specs.Accepted.{Accepted}
+use Rattle.settlement.proofs.Accepting.{answer-accepted}
 use Rattle.statement_text.specs.declared.Shown.{Shown}
 use Rattle.statement_text.specs.declared.figures.Figures.{Figures}
 use Rattle.statement_text.specs.Statement.{statementLines, settledAnswer, refuseLine, monthOf, settledText, foundText, mostBytes, statementOf}
@@ -78,3 +80,8 @@ full-lent = record { full = by; charges-full = length-replicate {A = ℕ} 96 0; 
     by Accounts = le-of-eq (sym (length-replicate {A = ℕ} 96 0))
     by Loads = le-of-eq (sym (length-replicate {A = ℕ} 2976 0))
     by Reservations = le-of-eq (sym (length-replicate {A = ℕ} 96 0))
+
+-- an accepted month is accepted with outputs lent at full size
+pub fine : (m : Input) → settledAnswer m .number ≡ 0 → Accepted m (limit Accounts * chargeWidth) (limit Owners * creditWidth)
+unfolding settledAnswer
+fine m e = answer-accepted m (limit Accounts * chargeWidth) (limit Owners * creditWidth) e

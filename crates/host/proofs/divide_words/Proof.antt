@@ -1,8 +1,8 @@
 -- `host::divide_words` meets its contract: the numbers loaded are the weights', and what is stored is the bytes of the shares.
 -- Assumes nothing.
 use mathlib.Core.Path.{_≡_, refl, sym, ap, _∙_, subst}
-use mathlib.Core.List.{List, _++_}
-use Prim.Native.Nat.{_≤_, _*_, _/_, min}
+use mathlib.Core.List.{_++_}
+use Prim.Native.Nat.{_*_, _/_}
 use native.Mathlib.Nat.{le-of-eq, le-trans}
 use native.Mathlib.Omega.{arith}
 use lib.ListN.{length, take, drop}

@@ -1,7 +1,6 @@
 -- `host::noketualo_check` meets its contract: it looks for uneven lengths, too many weights and unlike numbers first.
 -- Assumes nothing.
-use mathlib.Core.Path.{_≡_, refl, sym, _∙_}
-use native.Mathlib.Omega.{arith}
+use mathlib.Core.Path.{refl, sym, _∙_}
 use borrow.Author.Needs.{needs}
 use Rattle.host.specs.Stores.{WholeWords}
 use Rattle.host.proofs.Calls.{check-uneven, check-many, check-unlike, whole-words}

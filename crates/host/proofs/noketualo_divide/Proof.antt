@@ -1,7 +1,6 @@
 -- `host::noketualo_divide` meets its contract: it looks for uneven lengths and too many weights first.
 -- Assumes nothing.
-use mathlib.Core.Path.{_≡_, refl, sym, _∙_}
-use mathlib.Core.Bool.{false}
+use mathlib.Core.Path.{refl, sym, _∙_}
 use native.Mathlib.Omega.{arith}
 use borrow.Author.Needs.{needs}
 use Rattle.host.specs.Stores.{WholeWords}

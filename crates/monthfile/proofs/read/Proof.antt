@@ -1,19 +1,9 @@
-use mathlib.Core.Path.{_≡_, refl, sym, ap, _∙_}
-use mathlib.Core.Logic.{⊎-elim}
-use Prim.Native.Nat.{ℕ, zero, suc, _≤_, _<_, _+_, _*_, _/_, _%_, _-_, _^_, min}
-use native.Mathlib.Numerals.{add-one}
-use native.Mathlib.Omega.{arith}
+use Prim.Native.Nat.{_-_}
 use Rattle.tables.specs.Shape.{tablesOf}
 use Rattle.monthfile.proofs.Rooms.{rooms-in-turn, read-no-room, read-refused, read-ready, read-filled}
 use borrow.Author.Needs.{needs}
 use Rattle.monthfile.proofs.read.Statement.{statement}
 use Rattle.monthfile.proofs.read.Tie as tie
-use Rattle.monthfile.proofs.read.Reads as reads
-use Rattle.monthfile.proofs.read.Lts as lts
-use Rattle.monthfile.proofs.fill.fill.Reads as fill-reads
-use Rattle.monthfile.proofs.judge.judge_text.Reads as judge-text-reads
-use Rattle.monthfile.proofs.judge.nothing_read.Reads as nothing-read-reads
-use Rattle.monthfile.proofs.room.judge_room.Reads as judge-room-reads
 
 -- src/lib.rt:50:9
 judge-room-requires : tie.Need-judge-room-requires

@@ -1,8 +1,4 @@
-use mathlib.Core.Path.{_≡_, refl, sym, ap, _∙_}
-use mathlib.Core.Logic.{⊎-elim}
-use Prim.Native.Nat.{ℕ, zero, suc, _≤_, _<_, _+_, _*_, _/_, _%_, _-_, _^_, min}
-use native.Mathlib.Numerals.{add-one}
-use native.Mathlib.Omega.{arith}
+use Prim.Native.Nat.{_-_}
 use Rattle.tables.specs.Shape.{Tables, tablesOf}
 use Rattle.monthfile.specs.Reading.{Contents}
 use Rattle.monthfile.specs.Calls.{contentsOf}
@@ -10,12 +6,6 @@ use Rattle.monthfile.proofs.Pieces.{counts-in-turn, write-counts, write
 use borrow.Author.Needs.{needs}
 use Rattle.monthfile.proofs.write.Statement.{statement}
 use Rattle.monthfile.proofs.write.Tie as tie
-use Rattle.monthfile.proofs.write.Reads as reads
-use Rattle.monthfile.proofs.write.Lts as lts
-use Rattle.answer.proofs.refused.Reads as refused-reads
-use Rattle.monthfile.proofs.put.put_text.Reads as put-text-reads
-use Rattle.monthfile.proofs.put.text_size.Reads as text-size-reads
-use Rattle.tables.proofs.counts.judge_counts.Reads as judge-counts-reads
 
 abbrev lent : tie.Start → Tables
 lent e = tablesOf (e .args .zones .now) (e .args .owners .now) (e .args .units .now) (e .args .accounts .now) (e .args .loads .now) (e .args .reservations .now)

@@ -1,8 +1,5 @@
-use mathlib.Core.Path.{_≡_, refl, sym, ap, _∙_}
-use mathlib.Core.Logic.{⊎-elim}
-use Prim.Native.Nat.{ℕ, zero, suc, _≤_, _<_, _+_, _*_, _/_, _%_, _-_, _^_, min}
-use native.Mathlib.Numerals.{add-one}
-use native.Mathlib.Omega.{arith}
+use mathlib.Core.Path.{_≡_, sym, ap, _∙_}
+use Prim.Native.Nat.{ℕ, _-_}
 use lib.ListN.{drop}
 use mathlib.Core.List.{List}
 use Rattle.tables.specs.declared.Table.the-variants.{Zones, Owners, Units, Accounts, Loads, Reservations}
@@ -15,9 +12,6 @@ use Rattle.monthfile.proofs.Filling.{stage-requires, stage-next, stage-
 use borrow.Author.Needs.{needs}
 use Rattle.monthfile.proofs.fill.fill.Statement.{statement}
 use Rattle.monthfile.proofs.fill.fill.Tie as tie
-use Rattle.monthfile.proofs.fill.fill.Reads as reads
-use Rattle.monthfile.proofs.fill.fill.Lts as lts
-use Rattle.monthfile.proofs.row.take_rows.Reads as take-rows-reads
 
 abbrev text : tie.Start → List ℕ
 text e = e .args .text .now

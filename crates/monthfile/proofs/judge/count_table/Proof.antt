@@ -1,8 +1,5 @@
-use mathlib.Core.Path.{_≡_, refl, sym, ap, _∙_}
-use mathlib.Core.Logic.{⊎-elim}
-use Prim.Native.Nat.{ℕ, zero, suc, _≤_, _<_, _+_, _*_, _/_, _%_, _-_, _^_, min}
-use native.Mathlib.Numerals.{add-one}
-use native.Mathlib.Omega.{arith}
+use mathlib.Core.Path.{sym}
+use Prim.Native.Nat.{suc, _-_}
 use lib.ListN.{drop}
 use mathlib.Core.Path.{subst}
 use Rattle.tables.specs.Shape.{width, limit}
@@ -12,9 +9,6 @@ use Rattle.monthfile.specs.Walks.{CountedAt}
 use borrow.Author.Needs.{needs}
 use Rattle.monthfile.proofs.judge.count_table.Statement.{statement}
 use Rattle.monthfile.proofs.judge.count_table.Tie as tie
-use Rattle.monthfile.proofs.judge.count_table.Reads as reads
-use Rattle.monthfile.proofs.judge.count_table.Lts as lts
-use Rattle.monthfile.proofs.row.count_rows.Reads as count-rows-reads
 
 -- src/judge.rt:117:51
 enum-told : tie.Need-enum-told

@@ -1,8 +1,5 @@
-use mathlib.Core.Path.{_≡_, refl, sym, ap, _∙_}
-use mathlib.Core.Logic.{⊎-elim}
-use Prim.Native.Nat.{ℕ, zero, suc, _≤_, _<_, _+_, _*_, _/_, _%_, _-_, _^_, min}
-use native.Mathlib.Numerals.{add-one}
-use native.Mathlib.Omega.{arith}
+use mathlib.Core.Path.{sym, ap}
+use Prim.Native.Nat.{_-_}
 use lib.ListN.{drop}
 use mathlib.Core.Path.{subst}
 use Rattle.text.specs.Lines.{line}
@@ -12,9 +9,6 @@ use Rattle.monthfile.proofs.LineWalks.{nonzone-at}
 use borrow.Author.Needs.{needs}
 use Rattle.monthfile.proofs.judge.head_line.Statement.{statement}
 use Rattle.monthfile.proofs.judge.head_line.Tie as tie
-use Rattle.monthfile.proofs.judge.head_line.Reads as reads
-use Rattle.monthfile.proofs.judge.head_line.Lts as lts
-use Rattle.monthfile.proofs.judge.one_number.Reads as one-number-reads
 
 -- src/judge.rt:73:35
 slice-aggregate-one-number : tie.Need-slice-aggregate-one-number

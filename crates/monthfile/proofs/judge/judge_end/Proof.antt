@@ -1,8 +1,5 @@
-use mathlib.Core.Path.{_≡_, refl, sym, ap, _∙_}
-use mathlib.Core.Logic.{⊎-elim}
-use Prim.Native.Nat.{ℕ, zero, suc, _≤_, _<_, _+_, _*_, _/_, _%_, _-_, _^_, min}
-use native.Mathlib.Numerals.{add-one}
-use native.Mathlib.Omega.{arith}
+use mathlib.Core.Path.{refl, ap, _∙_}
+use Prim.Native.Nat.{_-_}
 use mathlib.Core.List.{[], _∷_}
 use Rattle.answer.specs.declared.Answer.{Answer}
 use Rattle.answer.proofs.Turns.{refuse-number}
@@ -11,10 +8,6 @@ use Rattle.monthfile.proofs.LineWalks.{end-missing, end-other, end-behi
 use borrow.Author.Needs.{needs}
 use Rattle.monthfile.proofs.judge.judge_end.Statement.{statement}
 use Rattle.monthfile.proofs.judge.judge_end.Tie as tie
-use Rattle.monthfile.proofs.judge.judge_end.Reads as reads
-use Rattle.monthfile.proofs.judge.judge_end.Lts as lts
-use Rattle.answer.proofs.refused.Reads as refused-reads
-use Rattle.monthfile.proofs.judge.one_number.Reads as one-number-reads
 
 -- src/judge.rt:157:37
 slice-aggregate-one-number : tie.Need-slice-aggregate-one-number

@@ -1,7 +1,5 @@
-use mathlib.Core.Path.{_≡_, refl, sym, ap, _∙_}
-use mathlib.Core.Logic.{⊎-elim}
-use Prim.Native.Nat.{ℕ, zero, suc, _≤_, _<_, _+_, _*_, _/_, _%_, _-_, _^_, min}
-use native.Mathlib.Numerals.{add-one}
+use mathlib.Core.Path.{_≡_, refl, _∙_}
+use Prim.Native.Nat.{_≤_, _-_}
 use native.Mathlib.Omega.{arith}
 use lib.ListN.{length, drop}
 use Rattle.monthfile.specs.Form.{monthForm}
@@ -10,11 +8,6 @@ use Rattle.monthfile.proofs.LineWalks.{Walking, walk-start, itself, its
 use borrow.Author.Needs.{needs}
 use Rattle.monthfile.proofs.judge.judge_heads.Statement.{statement}
 use Rattle.monthfile.proofs.judge.judge_heads.Tie as tie
-use Rattle.monthfile.proofs.judge.judge_heads.Reads as reads
-use Rattle.monthfile.proofs.judge.judge_heads.Lts as lts
-use Rattle.monthfile.proofs.judge.fine.Reads as fine-reads
-use Rattle.monthfile.proofs.judge.head_line.Reads as head-line-reads
-use Rattle.monthfile.proofs.judge.unfit.Reads as unfit-reads
 
 abbrev Inv-loop : tie.InvT-loop
 Inv-loop text head₀ i₀ k₀ head i k =

@@ -1,7 +1,5 @@
-use mathlib.Core.Path.{_≡_, refl, sym, ap, _∙_}
-use mathlib.Core.Logic.{⊎-elim}
-use Prim.Native.Nat.{ℕ, zero, suc, _≤_, _<_, _+_, _*_, _/_, _%_, _-_, _^_, min}
-use native.Mathlib.Numerals.{add-one}
+use mathlib.Core.Path.{_≡_, refl, ap, _∙_}
+use Prim.Native.Nat.{suc, _≤_, _<_, _-_}
 use native.Mathlib.Omega.{arith}
 use lib.ListN.{length, drop, length-set}
 use mathlib.Core.Path.{subst, ap₂}
@@ -14,14 +12,6 @@ use Rattle.monthfile.proofs.LineWalks.{Walking, walk-start, counts-more
 use borrow.Author.Needs.{needs}
 use Rattle.monthfile.proofs.judge.judge_tables.Statement.{statement}
 use Rattle.monthfile.proofs.judge.judge_tables.Tie as tie
-use Rattle.monthfile.proofs.judge.judge_tables.Reads as reads
-use Rattle.monthfile.proofs.judge.judge_tables.Lts as lts
-use Rattle.answer.proofs.refused.Reads as refused-reads
-use Rattle.monthfile.proofs.judge.count_table.Reads as count-table-reads
-use Rattle.monthfile.proofs.judge.fine.Reads as fine-reads
-use Rattle.monthfile.proofs.judge.table_of.Reads as table-of-reads
-use Rattle.tables.proofs.limit.Reads as limit-reads
-use Rattle.tables.proofs.number.Reads as number-reads
 
 abbrev Inv-loop : tie.InvT-loop
 Inv-loop text at counts₀ i₀ k₀ counts i k =

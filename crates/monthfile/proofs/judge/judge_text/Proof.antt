@@ -1,21 +1,10 @@
-use mathlib.Core.Path.{_≡_, refl, sym, ap, _∙_}
-use mathlib.Core.Logic.{⊎-elim}
-use Prim.Native.Nat.{ℕ, zero, suc, _≤_, _<_, _+_, _*_, _/_, _%_, _-_, _^_, min}
-use native.Mathlib.Numerals.{add-one}
-use native.Mathlib.Omega.{arith}
+use mathlib.Core.Path.{refl}
+use Prim.Native.Nat.{_-_}
 use mathlib.Core.List.{[], _∷_}
 use Rattle.monthfile.proofs.Judging.{judged-heads, judged-tables, counts-small, judged-end, judged-fine}
 use borrow.Author.Needs.{needs}
 use Rattle.monthfile.proofs.judge.judge_text.Statement.{statement}
 use Rattle.monthfile.proofs.judge.judge_text.Tie as tie
-use Rattle.monthfile.proofs.judge.judge_text.Reads as reads
-use Rattle.monthfile.proofs.judge.judge_text.Lts as lts
-use Rattle.monthfile.proofs.judge.found.Reads as found-reads
-use Rattle.monthfile.proofs.judge.judge_end.Reads as judge-end-reads
-use Rattle.monthfile.proofs.judge.judge_heads.Reads as judge-heads-reads
-use Rattle.monthfile.proofs.judge.judge_tables.Reads as judge-tables-reads
-use Rattle.monthfile.proofs.judge.stopped.Reads as stopped-reads
-use Rattle.monthfile.proofs.judge.total_of.Reads as total-of-reads
 
 -- src/judge.rt:245:35
 slice-aggregate-judge-heads : tie.Need-slice-aggregate-judge-heads

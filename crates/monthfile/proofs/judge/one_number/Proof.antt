@@ -1,7 +1,5 @@
-use mathlib.Core.Path.{_≡_, refl, sym, ap, _∙_}
-use mathlib.Core.Logic.{⊎-elim}
-use Prim.Native.Nat.{ℕ, zero, suc, _≤_, _<_, _+_, _*_, _/_, _%_, _-_, _^_, min}
-use native.Mathlib.Numerals.{add-one}
+use mathlib.Core.Path.{sym, ap, _∙_}
+use Prim.Native.Nat.{_-_}
 use native.Mathlib.Omega.{arith}
 use mathlib.Core.Path.{subst}
 use Rattle.text.specs.Places.{LineAt, fieldsOf, stored}
@@ -10,10 +8,6 @@ use Rattle.text.proofs.Stores.{stored-none}
 use borrow.Author.Needs.{needs}
 use Rattle.monthfile.proofs.judge.one_number.Statement.{statement}
 use Rattle.monthfile.proofs.judge.one_number.Tie as tie
-use Rattle.monthfile.proofs.judge.one_number.Reads as reads
-use Rattle.monthfile.proofs.judge.one_number.Lts as lts
-use Rattle.text.proofs.reader.next_line.Reads as next-line-reads
-use Rattle.text.proofs.line.take_line.Reads as take-line-reads
 
 -- src/judge.rt:59:9
 next-line-requires : tie.Need-next-line-requires

@@ -1,14 +1,8 @@
-use mathlib.Core.Path.{_≡_, refl, sym, ap, _∙_}
-use mathlib.Core.Logic.{⊎-elim}
-use Prim.Native.Nat.{ℕ, zero, suc, _≤_, _<_, _+_, _*_, _/_, _%_, _-_, _^_, min}
-use native.Mathlib.Numerals.{add-one}
-use native.Mathlib.Omega.{arith}
+use Prim.Native.Nat.{_-_}
 use Rattle.monthfile.proofs.LineWalks.{reservations-at}
 use borrow.Author.Needs.{needs}
 use Rattle.monthfile.proofs.judge.table_of.Statement.{statement}
 use Rattle.monthfile.proofs.judge.table_of.Tie as tie
-use Rattle.monthfile.proofs.judge.table_of.Reads as reads
-use Rattle.monthfile.proofs.judge.table_of.Lts as lts
 
 -- src/judge.rt:98:1
 returns : tie.Need-returns

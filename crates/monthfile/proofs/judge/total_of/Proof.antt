@@ -1,7 +1,5 @@
-use mathlib.Core.Path.{_≡_, refl, sym, ap, _∙_}
-use mathlib.Core.Logic.{⊎-elim}
-use Prim.Native.Nat.{ℕ, zero, suc, _≤_, _<_, _+_, _*_, _/_, _%_, _-_, _^_, min}
-use native.Mathlib.Numerals.{add-one}
+use mathlib.Core.Path.{_≡_}
+use Prim.Native.Nat.{_≤_, _+_, _-_}
 use native.Mathlib.Omega.{arith}
 use lib.ListN.{length, drop}
 use Rattle.monthfile.specs.Walks.{addedUp}
@@ -9,8 +7,6 @@ use Rattle.monthfile.proofs.LineWalks.{added-next, added-end}
 use borrow.Author.Needs.{needs}
 use Rattle.monthfile.proofs.judge.total_of.Statement.{statement}
 use Rattle.monthfile.proofs.judge.total_of.Tie as tie
-use Rattle.monthfile.proofs.judge.total_of.Reads as reads
-use Rattle.monthfile.proofs.judge.total_of.Lts as lts
 
 abbrev Inv-loop : tie.InvT-loop
 Inv-loop counts sum₀ k₀ sum k = (k ≤ length counts) × (sum + addedUp (drop k counts) ≡ addedUp counts)

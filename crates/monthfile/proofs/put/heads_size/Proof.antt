@@ -1,7 +1,4 @@
-use mathlib.Core.Path.{_≡_, refl, sym, ap, _∙_}
-use mathlib.Core.Logic.{⊎-elim}
-use Prim.Native.Nat.{ℕ, zero, suc, _≤_, _<_, _+_, _*_, _/_, _%_, _-_, _^_, min}
-use native.Mathlib.Numerals.{add-one}
+use Prim.Native.Nat.{_-_}
 use native.Mathlib.Omega.{arith}
 use mathlib.Core.Path.{subst}
 use mathlib.Core.List.{[], _∷_}
@@ -13,9 +10,6 @@ use Rattle.monthfile.proofs.Pieces.{joined, heads-pieces, size-nothing}
 use borrow.Author.Needs.{needs}
 use Rattle.monthfile.proofs.put.heads_size.Statement.{statement}
 use Rattle.monthfile.proofs.put.heads_size.Tie as tie
-use Rattle.monthfile.proofs.put.heads_size.Reads as reads
-use Rattle.monthfile.proofs.put.heads_size.Lts as lts
-use Rattle.text.proofs.line.line_size.Reads as line-size-reads
 
 -- src/put.rt:52:39
 slice-aggregate-line-size : tie.Need-slice-aggregate-line-size

@@ -1,7 +1,5 @@
-use mathlib.Core.Path.{_≡_, refl, sym, ap, _∙_}
-use mathlib.Core.Logic.{⊎-elim}
-use Prim.Native.Nat.{ℕ, zero, suc, _≤_, _<_, _+_, _*_, _/_, _%_, _-_, _^_, min}
-use native.Mathlib.Numerals.{add-one}
+use mathlib.Core.Path.{sym, _∙_}
+use Prim.Native.Nat.{_≤_, _+_, _-_}
 use native.Mathlib.Omega.{arith}
 use lib.ListN.{length}
 use mathlib.Core.Path.{subst}
@@ -14,9 +12,6 @@ use Rattle.monthfile.proofs.Pieces.{joined, heads-pieces}
 use borrow.Author.Needs.{needs}
 use Rattle.monthfile.proofs.put.put_heads.Statement.{statement}
 use Rattle.monthfile.proofs.put.put_heads.Tie as tie
-use Rattle.monthfile.proofs.put.put_heads.Reads as reads
-use Rattle.monthfile.proofs.put.put_heads.Lts as lts
-use Rattle.text.proofs.line.put_line.Reads as put-line-reads
 
 whole : (e : tie.Start) → 0 + length (joined ((lineText (bytes "month") (e .args .month ∷ [])) ∷ (lineText (bytes "days") (e .args .days ∷ [])) ∷ (lineText (bytes "nonzone") (e .args .nonzone ∷ [])) ∷ [])) ≤ length (e .args .out .now)
 whole e = subst (λ l. 0 + length l ≤ length (e .args .out .now)) (sym (heads-pieces (e .args .month) (e .args .days) (e .args .nonzone))) (e .pre)

@@ -1,16 +1,9 @@
-use mathlib.Core.Path.{_≡_, refl, sym, ap, _∙_}
-use mathlib.Core.Logic.{⊎-elim}
-use Prim.Native.Nat.{ℕ, zero, suc, _≤_, _<_, _+_, _*_, _/_, _%_, _-_, _^_, min}
-use native.Mathlib.Numerals.{add-one}
-use native.Mathlib.Omega.{arith}
+use Prim.Native.Nat.{_-_}
 use native.Mathlib.Nat.{div-mul-le-self}
 use lib.ListN.{length}
 use borrow.Author.Needs.{needs}
 use Rattle.monthfile.proofs.put.put_table.Statement.{statement}
 use Rattle.monthfile.proofs.put.put_table.Tie as tie
-use Rattle.monthfile.proofs.put.put_table.Reads as reads
-use Rattle.monthfile.proofs.put.put_table.Lts as lts
-use Rattle.monthfile.proofs.row.put_rows.Reads as put-rows-reads
 
 -- src/put.rt:29:31
 div-put-rows : tie.Need-div-put-rows

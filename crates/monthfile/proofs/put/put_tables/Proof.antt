@@ -1,7 +1,5 @@
-use mathlib.Core.Path.{_≡_, refl, sym, ap, _∙_}
-use mathlib.Core.Logic.{⊎-elim}
-use Prim.Native.Nat.{ℕ, zero, suc, _≤_, _<_, _+_, _*_, _/_, _%_, _-_, _^_, min}
-use native.Mathlib.Numerals.{add-one}
+use mathlib.Core.Path.{sym, _∙_}
+use Prim.Native.Nat.{_≤_, _+_, _-_}
 use native.Mathlib.Omega.{arith}
 use lib.ListN.{length}
 use mathlib.Core.Path.{subst}
@@ -14,9 +12,6 @@ use Rattle.monthfile.proofs.Pieces.{joined, tablePiece, pieces1, pieces
 use borrow.Author.Needs.{needs}
 use Rattle.monthfile.proofs.put.put_tables.Statement.{statement}
 use Rattle.monthfile.proofs.put.put_tables.Tie as tie
-use Rattle.monthfile.proofs.put.put_tables.Reads as reads
-use Rattle.monthfile.proofs.put.put_tables.Lts as lts
-use Rattle.monthfile.proofs.put.put_table.Reads as put-table-reads
 
 abbrev lent : tie.Start → Tables
 lent e = tablesOf (e .args .zones .now) (e .args .owners .now) (e .args .units .now) (e .args .accounts .now) (e .args .loads .now) (e .args .reservations .now)

@@ -1,8 +1,5 @@
-use mathlib.Core.Path.{_≡_, refl, sym, ap, _∙_}
-use mathlib.Core.Logic.{⊎-elim}
-use Prim.Native.Nat.{ℕ, zero, suc, _≤_, _<_, _+_, _*_, _/_, _%_, _-_, _^_, min}
-use native.Mathlib.Numerals.{add-one}
-use native.Mathlib.Omega.{arith}
+use mathlib.Core.Path.{sym, _∙_}
+use Prim.Native.Nat.{_≤_, _+_, _-_}
 use mathlib.Core.Path.{subst}
 use mathlib.Core.List.{[], _∷_, _++_}
 use Rattle.tables.specs.Shape.{tablesOf}
@@ -18,12 +15,6 @@ use Rattle.text.proofs.Stores.{put-append, fits-first, fits-on}
 use borrow.Author.Needs.{needs}
 use Rattle.monthfile.proofs.put.put_text.Statement.{statement}
 use Rattle.monthfile.proofs.put.put_text.Tie as tie
-use Rattle.monthfile.proofs.put.put_text.Reads as reads
-use Rattle.monthfile.proofs.put.put_text.Lts as lts
-use Rattle.monthfile.proofs.put.put_end.Reads as put-end-reads
-use Rattle.monthfile.proofs.put.put_heads.Reads as put-heads-reads
-use Rattle.monthfile.proofs.put.put_tables.Reads as put-tables-reads
-use Rattle.monthfile.proofs.put.rows_in_all.Reads as rows-in-all-reads
 
 whole : (e : tie.Start) → 0 + length ((headsText (monthForm .heads) (e .args .month ∷ e .args .days ∷ e .args .nonzone ∷ [])) ++ ((tablesText (monthForm .kinds) (allRows (tablesOf (e .args .zones .now) (e .args .owners .now) (e .args .units .now) (e .args .accounts .now) (e .args .loads .now) (e .args .reservations .now)))) ++ (lineText (monthForm .last) (rowsIn (allRows (tablesOf (e .args .zones .now) (e .args .owners .now) (e .args .units .now) (e .args .accounts .now) (e .args .loads .now) (e .args .reservations .now))) ∷ [])))) ≤ length (e .args .out .now)
 whole e =

@@ -1,15 +1,10 @@
-use mathlib.Core.Path.{_≡_, refl, sym, ap, _∙_}
-use mathlib.Core.Logic.{⊎-elim}
-use Prim.Native.Nat.{ℕ, zero, suc, _≤_, _<_, _+_, _*_, _/_, _%_, _-_, _^_, min}
-use native.Mathlib.Numerals.{add-one}
+use Prim.Native.Nat.{_-_}
 use native.Mathlib.Omega.{arith}
 use Rattle.tables.specs.Shape.{tablesOf}
 use Rattle.monthfile.proofs.Pieces.{all-rows}
 use borrow.Author.Needs.{needs}
 use Rattle.monthfile.proofs.put.rows_in_all.Statement.{statement}
 use Rattle.monthfile.proofs.put.rows_in_all.Tie as tie
-use Rattle.monthfile.proofs.put.rows_in_all.Reads as reads
-use Rattle.monthfile.proofs.put.rows_in_all.Lts as lts
 
 -- src/put.rt:43:16
 add-some : tie.Need-add-some

@@ -1,16 +1,9 @@
-use mathlib.Core.Path.{_≡_, refl, sym, ap, _∙_}
-use mathlib.Core.Logic.{⊎-elim}
-use Prim.Native.Nat.{ℕ, zero, suc, _≤_, _<_, _+_, _*_, _/_, _%_, _-_, _^_, min}
-use native.Mathlib.Numerals.{add-one}
-use native.Mathlib.Omega.{arith}
+use Prim.Native.Nat.{_-_}
 use native.Mathlib.Nat.{div-mul-le-self}
 use lib.ListN.{length}
 use borrow.Author.Needs.{needs}
 use Rattle.monthfile.proofs.put.table_size.Statement.{statement}
 use Rattle.monthfile.proofs.put.table_size.Tie as tie
-use Rattle.monthfile.proofs.put.table_size.Reads as reads
-use Rattle.monthfile.proofs.put.table_size.Lts as lts
-use Rattle.monthfile.proofs.row.rows_size.Reads as rows-size-reads
 
 -- src/put.rt:21:32
 div-rows-size : tie.Need-div-rows-size

@@ -1,7 +1,4 @@
-use mathlib.Core.Path.{_≡_, refl, sym, ap, _∙_}
-use mathlib.Core.Logic.{⊎-elim}
-use Prim.Native.Nat.{ℕ, zero, suc, _≤_, _<_, _+_, _*_, _/_, _%_, _-_, _^_, min}
-use native.Mathlib.Numerals.{add-one}
+use Prim.Native.Nat.{_-_}
 use native.Mathlib.Omega.{arith}
 use mathlib.Core.Path.{subst}
 use Rattle.tables.specs.declared.Table.the-variants.{Zones, Owners, Units, Accounts, Loads, Reservations}
@@ -12,9 +9,6 @@ use Rattle.monthfile.proofs.Pieces.{joined, tablePiece, pieces1, pieces
 use borrow.Author.Needs.{needs}
 use Rattle.monthfile.proofs.put.tables_size.Statement.{statement}
 use Rattle.monthfile.proofs.put.tables_size.Tie as tie
-use Rattle.monthfile.proofs.put.tables_size.Reads as reads
-use Rattle.monthfile.proofs.put.tables_size.Lts as lts
-use Rattle.monthfile.proofs.put.table_size.Reads as table-size-reads
 
 -- src/put.rt:80:28
 slice-aggregate-table-size : tie.Need-slice-aggregate-table-size

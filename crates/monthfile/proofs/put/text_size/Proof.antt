@@ -1,10 +1,6 @@
-use mathlib.Core.Path.{_≡_, refl, sym, ap, _∙_}
-use mathlib.Core.Logic.{⊎-elim}
-use Prim.Native.Nat.{ℕ, zero, suc, _≤_, _<_, _+_, _*_, _/_, _%_, _-_, _^_, min}
-use native.Mathlib.Numerals.{add-one}
-use native.Mathlib.Omega.{arith}
+use Prim.Native.Nat.{_-_}
 use mathlib.Core.Path.{subst}
-use mathlib.Core.List.{[], _∷_, _++_}
+use mathlib.Core.List.{[], _∷_}
 use Rattle.tables.specs.Shape.{tablesOf}
 use Rattle.text.specs.Lines.{lineText}
 use Rattle.monthfile.specs.Form.{monthForm}
@@ -17,12 +13,6 @@ use Rattle.text.proofs.Stores.{sized-append, sized-most}
 use borrow.Author.Needs.{needs}
 use Rattle.monthfile.proofs.put.text_size.Statement.{statement}
 use Rattle.monthfile.proofs.put.text_size.Tie as tie
-use Rattle.monthfile.proofs.put.text_size.Reads as reads
-use Rattle.monthfile.proofs.put.text_size.Lts as lts
-use Rattle.monthfile.proofs.put.end_size.Reads as end-size-reads
-use Rattle.monthfile.proofs.put.heads_size.Reads as heads-size-reads
-use Rattle.monthfile.proofs.put.rows_in_all.Reads as rows-in-all-reads
-use Rattle.monthfile.proofs.put.tables_size.Reads as tables-size-reads
 
 -- src/put.rt:140:9
 heads-size-requires : tie.Need-heads-size-requires

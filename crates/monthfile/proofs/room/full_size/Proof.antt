@@ -1,14 +1,9 @@
-use mathlib.Core.Path.{_≡_, refl, sym, ap, _∙_}
-use mathlib.Core.Logic.{⊎-elim}
-use Prim.Native.Nat.{ℕ, zero, suc, _≤_, _<_, _+_, _*_, _/_, _%_, _-_, _^_, min}
-use native.Mathlib.Numerals.{add-one}
-use native.Mathlib.Omega.{arith}
+use mathlib.Core.Path.{sym, ap}
+use Prim.Native.Nat.{_*_, _-_}
 use Rattle.tables.specs.Shape.{width, limit}
 use borrow.Author.Needs.{needs}
 use Rattle.monthfile.proofs.room.full_size.Statement.{statement}
 use Rattle.monthfile.proofs.room.full_size.Tie as tie
-use Rattle.monthfile.proofs.room.full_size.Reads as reads
-use Rattle.monthfile.proofs.room.full_size.Lts as lts
 
 -- src/room.rt:16:25
 enum-told : tie.Need-enum-told

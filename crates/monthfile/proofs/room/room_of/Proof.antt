@@ -1,8 +1,5 @@
-use mathlib.Core.Path.{_≡_, refl, sym, ap, _∙_}
-use mathlib.Core.Logic.{⊎-elim}
-use Prim.Native.Nat.{ℕ, zero, suc, _≤_, _<_, _+_, _*_, _/_, _%_, _-_, _^_, min}
-use native.Mathlib.Numerals.{add-one}
-use native.Mathlib.Omega.{arith}
+use mathlib.Core.Path.{ap, _∙_}
+use Prim.Native.Nat.{_≤_, _<_, _*_, _-_}
 use mathlib.Core.Path.{subst}
 use Rattle.answer.specs.Turns.{refuse}
 use Rattle.tables.specs.Shape.{number, width, limit}
@@ -10,11 +7,6 @@ use Rattle.monthfile.proofs.Rooms.{room-short, room-enough}
 use borrow.Author.Needs.{needs}
 use Rattle.monthfile.proofs.room.room_of.Statement.{statement}
 use Rattle.monthfile.proofs.room.room_of.Tie as tie
-use Rattle.monthfile.proofs.room.room_of.Reads as reads
-use Rattle.monthfile.proofs.room.room_of.Lts as lts
-use Rattle.answer.proofs.refused.Reads as refused-reads
-use Rattle.monthfile.proofs.room.full_size.Reads as full-size-reads
-use Rattle.tables.proofs.number.Reads as number-reads
 
 -- src/room.rt:29:15
 full-size-requires : tie.Need-full-size-requires

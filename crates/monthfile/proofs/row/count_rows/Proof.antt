@@ -1,7 +1,5 @@
-use mathlib.Core.Path.{_≡_, refl, sym, ap, _∙_}
-use mathlib.Core.Logic.{⊎-elim}
-use Prim.Native.Nat.{ℕ, zero, suc, _≤_, _<_, _+_, _*_, _/_, _%_, _-_, _^_, min}
-use native.Mathlib.Numerals.{add-one}
+use mathlib.Core.Path.{_≡_}
+use Prim.Native.Nat.{_≤_, _+_, _-_}
 use native.Mathlib.Omega.{arith}
 use lib.ListN.{length, drop}
 use Rattle.monthfile.specs.Reading.{rows}
@@ -9,9 +7,6 @@ use Rattle.monthfile.proofs.RowWalks.{RowsPartly, rows-start, rows-miss
 use borrow.Author.Needs.{needs}
 use Rattle.monthfile.proofs.row.count_rows.Statement.{statement}
 use Rattle.monthfile.proofs.row.count_rows.Tie as tie
-use Rattle.monthfile.proofs.row.count_rows.Reads as reads
-use Rattle.monthfile.proofs.row.count_rows.Lts as lts
-use Rattle.text.proofs.reader.next_line.Reads as next-line-reads
 
 abbrev Inv-loop : tie.InvT-loop
 Inv-loop text at key width most i₀ count₀ left₀ i count left =

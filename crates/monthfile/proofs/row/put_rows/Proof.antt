@@ -1,7 +1,5 @@
-use mathlib.Core.Path.{_≡_, refl, sym, ap, _∙_}
-use mathlib.Core.Logic.{⊎-elim}
-use Prim.Native.Nat.{ℕ, zero, suc, _≤_, _<_, _+_, _*_, _/_, _%_, _-_, _^_, min}
-use native.Mathlib.Numerals.{add-one}
+use mathlib.Core.Path.{_≡_, refl, _∙_}
+use Prim.Native.Nat.{ℕ, _≤_, _+_, _*_, _-_}
 use native.Mathlib.Omega.{arith}
 use lib.ListN.{length, drop}
 use mathlib.Core.List.{List}
@@ -11,9 +9,6 @@ use Rattle.monthfile.proofs.RowWalks.{mul-down, put-on, put-done, lengt
 use borrow.Author.Needs.{needs}
 use Rattle.monthfile.proofs.row.put_rows.Statement.{statement}
 use Rattle.monthfile.proofs.row.put_rows.Tie as tie
-use Rattle.monthfile.proofs.row.put_rows.Reads as reads
-use Rattle.monthfile.proofs.row.put_rows.Lts as lts
-use Rattle.text.proofs.line.put_line.Reads as put-line-reads
 
 abbrev Inv-loop : tie.InvT-loop
 Inv-loop key width count words out₀ at i₀ left₀ from₀ out i left from =

@@ -1,7 +1,4 @@
-use mathlib.Core.Path.{_≡_, refl, sym, ap, _∙_}
-use mathlib.Core.Logic.{⊎-elim}
-use Prim.Native.Nat.{ℕ, zero, suc, _≤_, _<_, _+_, _*_, _/_, _%_, _-_, _^_, min}
-use native.Mathlib.Numerals.{add-one}
+use Prim.Native.Nat.{ℕ, _≤_, _+_, _*_, _-_}
 use native.Mathlib.Omega.{arith}
 use lib.ListN.{length, drop}
 use Rattle.text.specs.Places.{Sized}
@@ -11,9 +8,6 @@ use Rattle.monthfile.proofs.RowWalks.{mul-down, size-on, size-done}
 use borrow.Author.Needs.{needs}
 use Rattle.monthfile.proofs.row.rows_size.Statement.{statement}
 use Rattle.monthfile.proofs.row.rows_size.Tie as tie
-use Rattle.monthfile.proofs.row.rows_size.Reads as reads
-use Rattle.monthfile.proofs.row.rows_size.Lts as lts
-use Rattle.text.proofs.line.line_size.Reads as line-size-reads
 
 abbrev Inv-loop : tie.InvT-loop
 Inv-loop key width count words before cap size₀ left₀ from₀ size left from =

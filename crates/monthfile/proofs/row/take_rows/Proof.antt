@@ -1,7 +1,5 @@
 use mathlib.Core.Path.{_≡_, refl, sym, ap, _∙_}
-use mathlib.Core.Logic.{⊎-elim}
-use Prim.Native.Nat.{ℕ, zero, suc, _≤_, _<_, _+_, _*_, _/_, _%_, _-_, _^_, min}
-use native.Mathlib.Numerals.{add-one}
+use Prim.Native.Nat.{_≤_, _+_, _*_, _-_}
 use native.Mathlib.Omega.{arith}
 use lib.ListN.{length, drop}
 use Rattle.text.specs.Places.{stored}
@@ -11,9 +9,6 @@ use Rattle.monthfile.proofs.RowWalks.{mul-down, row-there, rows-there, 
 use borrow.Author.Needs.{needs}
 use Rattle.monthfile.proofs.row.take_rows.Statement.{statement}
 use Rattle.monthfile.proofs.row.take_rows.Tie as tie
-use Rattle.monthfile.proofs.row.take_rows.Reads as reads
-use Rattle.monthfile.proofs.row.take_rows.Lts as lts
-use Rattle.text.proofs.line.take_line.Reads as take-line-reads
 
 abbrev Inv-loop : tie.InvT-loop
 Inv-loop text at key width count words₀ i₀ left₀ place₀ words i left place =

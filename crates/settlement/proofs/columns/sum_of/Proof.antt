@@ -5,7 +5,6 @@ use Prim.Native.Nat.{ℕ, _-_, _<_, _^_}
 use native.Mathlib.Omega.{arith}
 use lib.Dec.{eqb}
 use Rattle.lists.specs.Sums.{sumTo, when}
-use Rattle.tables.specs.Shape.{rows}
 use Rattle.tables.specs.Columns.{entry}
 use Rattle.settlement.specs.Steps.{summed}
 use Rattle.settlement.proofs.Adding.{Added, added-none, added-on, added-fits, added-all, some-fit}

@@ -1,7 +1,7 @@
 -- `settlement::columns::sums_of` meets its contract: the words passed hold their sums.
 -- Assumes nothing.
-use mathlib.Core.Path.{_≡_, ap, _∙_}
-use Prim.Native.Nat.{ℕ, _-_}
+use mathlib.Core.Path.{ap, _∙_}
+use Prim.Native.Nat.{_-_}
 use native.Mathlib.Omega.{arith}
 use Rattle.lists.specs.Entries.{put}
 use Rattle.tables.specs.Columns.{entry}

@@ -1,7 +1,6 @@
 -- `settlement::columns::when_same` meets its contract: the test decides.
 -- Assumes nothing.
 use borrow.Author.Tests.{eq-eqb, ne-eqb}
-use borrow.Author.Needs.{needs}
 use Rattle.settlement.proofs.columns.when_same.Statement.{statement}
 use Rattle.settlement.proofs.columns.when_same.Tie as tie
 

@@ -1,6 +1,5 @@
 -- `settlement::network::divide` meets its contract: the two calls are the divisions, in turn.
 -- Assumes nothing.
-use Prim.Native.Nat.{ℕ}
 use native.Mathlib.Omega.{arith}
 use Rattle.settlement.proofs.Crediting.{network-divided}
 use borrow.Author.Needs.{needs}

@@ -1,6 +1,6 @@
 -- `settlement::output::write_credits` meets its contract: the words passed are written.
 -- Assumes nothing.
-use mathlib.Core.Path.{_≡_, ap, _∙_}
+use mathlib.Core.Path.{ap, _∙_}
 use Prim.Native.Nat.{_*_, _-_}
 use native.Mathlib.Omega.{arith}
 use Rattle.lists.specs.Sums.{at}

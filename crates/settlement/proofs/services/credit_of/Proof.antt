@@ -1,6 +1,6 @@
 -- `settlement::services::credit_of` meets its contract: a twelfth is at most the annual figure, so the sum fits.
 -- Assumes nothing.
-use mathlib.Core.Path.{_≡_, ap, ap₂, _∙_}
+use mathlib.Core.Path.{ap, ap₂, _∙_}
 use Prim.Native.Nat.{ℕ, _+_}
 use native.Mathlib.Omega.{arith}
 use lib.Dec.{eqb}

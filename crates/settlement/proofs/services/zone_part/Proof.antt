@@ -1,7 +1,6 @@
 -- `settlement::services::zone_part` meets its contract: the test decides.
 -- Assumes nothing.
 use borrow.Author.Tests.{eq-eqb, ne-eqb}
-use borrow.Author.Needs.{needs}
 use Rattle.settlement.proofs.services.zone_part.Statement.{statement}
 use Rattle.settlement.proofs.services.zone_part.Tie as tie
 

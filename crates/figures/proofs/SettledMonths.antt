@@ -1,11 +1,10 @@
--- Case S and figure B1 of the paper, computed from the definitions.
+-- Case S and figure B1 of the paper as tables of numbers, computed from the definitions.
 -- Assumes nothing.
 use mathlib.Core.Path.{_≡_, refl}
-use mathlib.Core.List.{List, [], _∷_}
-use Prim.Native.Nat.{ℕ}
+use mathlib.Core.List.{[], _∷_}
 use Rattle.lists.specs.Sums.{sumTo, largestFirst, any}
 use Rattle.lists.specs.Entries.{listed, put}
-use Rattle.answer.specs.Turns.{accepted, refuse, _then_, first, turns}
+use Rattle.answer.specs.Turns.{_then_, accepted, refuse, first, turns}
 use Rattle.division.specs.Limits.{sizeRefusal}
 use Rattle.division.specs.Shares.{quotient, remainder, leftover, comesBefore, getsCent, share, shares}
 use Rattle.groups.specs.Groups as groups

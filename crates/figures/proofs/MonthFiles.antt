@@ -8,9 +8,9 @@ use Rattle.answer.specs.Turns.{refuse}
 use Rattle.text.specs.Bytes.{bytes}
 use Rattle.text.specs.Numbers.{isDigit, digitsOn, number, digits, decimal}
 use Rattle.text.specs.Lines.{past, field, fields, line, fieldsText, lineText}
 use Rattle.monthfile.specs.Form.{monthForm}
-use Rattle.monthfile.specs.Reading.{Outcome, got, refused, rows, heads, tables, Contents, rowsIn, ending, reading}
+use Rattle.monthfile.specs.Reading.{got, refused, rows, heads, tables, Contents, rowsIn, ending, reading}
 use Rattle.monthfile.specs.Writing.{rowsText, headsText, tablesText, fileText}
 
 abbrev caseText : List ℕ
 caseText = bytes "month=4\ndays=30\nnonzone=0\nzone=1,365000\nowner=1,1,200\nowner=2,1,100\nunit=1,2,1,1,12000,0\naccount=1,70,1\naccount=2,71,0\nload=1,1,10\nload=1,2,10\nptp=2,480,0\nend=9\n"

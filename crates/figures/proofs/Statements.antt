@@ -5,7 +5,7 @@ use mathlib.Core.List.{List}
 use Prim.Native.Nat.{ℕ}
 use Rattle.lists.specs.Sums.{sumTo, largestFirst, any}
 use Rattle.lists.specs.Entries.{listed, put}
-use Rattle.answer.specs.Turns.{refuse, _then_, turns, first}
+use Rattle.answer.specs.Turns.{_then_, refuse, turns, first}
 use Rattle.division.specs.Limits.{sizeRefusal}
 use Rattle.division.specs.Shares.{quotient, remainder, leftover, comesBefore, getsCent, share, shares}
 use Rattle.groups.specs.Groups as groups

@@ -1,0 +1,51 @@
+-- Why a settlement is refused, and where: in each case all that is looked at earlier is fine, and the row is the paper's.
+-- Assumes nothing.
+use mathlib.Core.Path.{_≡_}
+use mathlib.Core.Logic.{_≢_}
+use Prim.Native.Nat.{ℕ, _+_, _*_, _<_}
+use Rattle.answer.specs.declared.Answer.{Answer}
+use Rattle.answer.specs.Numbers.{divisions}
+use Rattle.groups.specs.Groups.{refusal}
+use Rattle.service.specs.Turn as service
+use Rattle.tables.specs.Limits.{blackStart, reactive}
+use Rattle.tables.specs.Refused as tables
+use Rattle.settlement.specs.Input.{Input, zoneCount}
+use Rattle.settlement.specs.Network.{networkPots, nonzoneRefusal}
+use Rattle.settlement.specs.Services.{serviceIn}
+use Rattle.settlement.specs.Settled.{blackStartPlace, reactivePlace}
+use Rattle.settlement.specs.Accepted.{Good}
+
+-- the network divisions of the zones before zone z are fine
+abbrev pub ZonesFine : Input → ℕ → Type 0
+ZonesFine m z = (y : ℕ) → y < z → refusal (networkPots m) y ≡ 0
+
+-- all network divisions are
+pub record NetworkFine (m : Input) : Type 0 where
+  pub zones-fine : ZonesFine m (zoneCount m)
+  pub nonzone-fine : nonzoneRefusal m ≡ 0
+
+module _ (m : Input) (lentCharges lentCredits : ℕ) where
+  pub data Refused (r : Answer) : Type 0 where
+    -- an input that the tables' rules refuse
+    by-tables : tables.Refused (m .month) (m .days) (m .nonzone) (m .tables) lentCharges lentCredits r → Refused r
+    -- "network zones 0..k-1"
+    at-zone : Good m lentCharges lentCredits → (z : ℕ) → z < zoneCount m → ZonesFine m z → refusal (networkPots m) z ≢ 0
+        → r ≡ record { number = refusal (networkPots m) z; table = divisions; row = z } → Refused r
+    -- "network non-zone k"
+    at-nonzone : Good m lentCharges lentCredits → ZonesFine m (zoneCount m) → nonzoneRefusal m ≢ 0
+        → r ≡ record { number = nonzoneRefusal m; table = divisions; row = zoneCount m } → Refused r
+    -- at a division of black start, whose places start at k+1
+    in-black-start : Good m lentCharges lentCredits → NetworkFine m
+        → service.RefusedAt (serviceIn m blackStart) (blackStartPlace (zoneCount m)) r → Refused r
+    -- at a division of reactive, whose places start at 3k+2
+    in-reactive : Good m lentCharges lentCredits → NetworkFine m → service.Accepted (serviceIn m blackStart)
+        → service.RefusedAt (serviceIn m reactive) (reactivePlace (zoneCount m)) r → Refused r
+
+-- "black start zone i split k+1+2i and share k+2+2i, its non-zone 3k+1, reactive split 3k+2+2i, share 3k+3+2i, non-zone 5k+2"
+pub record Places (m : Input) : Type 0 where
+  pub black-start-split : (i : ℕ) → service.splitPlace (blackStartPlace (zoneCount m)) i ≡ zoneCount m + 1 + 2 * i
+  pub black-start-share : (i : ℕ) → service.sharePlace (blackStartPlace (zoneCount m)) i ≡ zoneCount m + 2 + 2 * i
+  pub black-start-nonzone : service.nonzonePlace (blackStartPlace (zoneCount m)) (serviceIn m blackStart) ≡ 3 * zoneCount m + 1
+  pub reactive-split : (i : ℕ) → service.splitPlace (reactivePlace (zoneCount m)) i ≡ 3 * zoneCount m + 2 + 2 * i
+  pub reactive-share : (i : ℕ) → service.sharePlace (reactivePlace (zoneCount m)) i ≡ 3 * zoneCount m + 3 + 2 * i
+  pub reactive-nonzone : service.nonzonePlace (reactivePlace (zoneCount m)) (serviceIn m reactive) ≡ 5 * zoneCount m + 2
