@@ -68,11 +68,11 @@ module _ (m : Input) where
   answerOf lentCharges lentCredits =
       judged (m .month) (m .days) (m .nonzone) (m .tables) lentCharges lentCredits then divisionsInTurn
 
-  -- "every account row's three charges (network, black start, reactive)": account a's charge in a column
+  -- "every account row's three charges (network, black start, reactive)": `chargeOf column a`
   unfoldable pub chargeOf : ℕ → ℕ → ℕ
   chargeOf = threeOf (networkCharge m) (serviceCharge m blackStart) (serviceCharge m reactive)
 
-  -- "every owner's four credits (network, non-zone network, black start, reactive)": owner o's credit in a column
+  -- "every owner's four credits (network, non-zone network, black start, reactive)": `creditOf column o`
   unfoldable pub creditOf : ℕ → ℕ → ℕ
   creditOf = fourOf (networkCredit m) (nonzoneCredit m) (serviceCredit m blackStart) (serviceCredit m reactive)
 

@@ -128,7 +128,7 @@ Unpaired t Accounts i = OwnPair (t .accounts) i
 Unpaired t Loads i = Unit {0}
 Unpaired t Reservations i = Unit {0}
 
--- "a row .. above the one before"
+-- ORDER is "a row not above the one before": turned round, each row is above the one before
 abbrev pub Ascending : Tables → Table → ℕ → Type 0
 Ascending t table i = (j : ℕ) → i ≡ j + 1 → Above t table j i
 
