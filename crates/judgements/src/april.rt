@@ -78,20 +78,41 @@ pub(crate) fn room(name: &[u8], charges: usize, credits: usize) {
     );
 }
 
-pub(crate) fn zones_as(name: &[u8], zones: &[u64]) {
+// A month of these tables, with room for every figure.
+fn april(
+    name: &[u8],
+    zones: &[u64],
+    owners: &[u64],
+    units: &[u64],
+    accounts: &[u64],
+    loads: &[u64],
+    reservations: &[u64],
+) {
     judge_line(
         name,
         4,
         30,
         1000,
         zones,
+        owners,
+        units,
+        accounts,
+        loads,
+        reservations,
+        96,
+        256,
+    );
+}
+
+pub(crate) fn zones_as(name: &[u8], zones: &[u64]) {
+    april(
+        name,
+        zones,
         &OWNERS,
         &UNITS,
         &ACCOUNTS,
         &LOADS,
         &RESERVATIONS,
-        96,
-        256,
     );
 }
 
@@ -104,19 +125,14 @@ pub(crate) fn zone_entry(name: &[u8], row: usize, column: usize, entry: u64)
 }
 
 pub(crate) fn owners_as(name: &[u8], owners: &[u64]) {
-    judge_line(
+    april(
         name,
-        4,
-        30,
-        1000,
         &ZONES,
         owners,
         &UNITS,
         &ACCOUNTS,
         &LOADS,
         &RESERVATIONS,
-        96,
-        256,
     );
 }
 
@@ -129,19 +145,14 @@ pub(crate) fn owner_entry(name: &[u8], row: usize, column: usize, entry: u64)
 }
 
 pub(crate) fn units_as(name: &[u8], units: &[u64]) {
-    judge_line(
+    april(
         name,
-        4,
-        30,
-        1000,
         &ZONES,
         &OWNERS,
         units,
         &ACCOUNTS,
         &LOADS,
         &RESERVATIONS,
-        96,
-        256,
     );
 }
 
@@ -154,19 +165,14 @@ pub(crate) fn unit_entry(name: &[u8], row: usize, column: usize, entry: u64)
 }
 
 pub(crate) fn accounts_as(name: &[u8], accounts: &[u64]) {
-    judge_line(
+    april(
         name,
-        4,
-        30,
-        1000,
         &ZONES,
         &OWNERS,
         &UNITS,
         accounts,
         &LOADS,
         &RESERVATIONS,
-        96,
-        256,
     );
 }
 
@@ -179,19 +185,14 @@ pub(crate) fn account_entry(name: &[u8], row: usize, column: usize, entry: u64)
 }
 
 pub(crate) fn loads_as(name: &[u8], loads: &[u64]) {
-    judge_line(
+    april(
         name,
-        4,
-        30,
-        1000,
         &ZONES,
         &OWNERS,
         &UNITS,
         &ACCOUNTS,
         loads,
         &RESERVATIONS,
-        96,
-        256,
     );
 }
 
@@ -204,19 +205,14 @@ pub(crate) fn load_entry(name: &[u8], row: usize, column: usize, entry: u64)
 }
 
 pub(crate) fn reservations_as(name: &[u8], reservations: &[u64]) {
-    judge_line(
+    april(
         name,
-        4,
-        30,
-        1000,
         &ZONES,
         &OWNERS,
         &UNITS,
         &ACCOUNTS,
         &LOADS,
         reservations,
-        96,
-        256,
     );
 }
 

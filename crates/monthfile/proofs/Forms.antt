@@ -193,6 +193,28 @@ tables-text (kind ∷ kinds) (t ∷ ts) last ns rest f d =
     ∙ ap (λ o. onward o (λ us u. got (t ∷ us) u))
     (tables-text kinds ts last ns rest (f .1) (both-right (differs (kind .key) kinds last) (allDiffer kinds last) d))
 
+-- the first kind of those that were read, and the others behind it
+pub record FirstKind (kind : Kind) (kinds : List Kind) (s : List ℕ) (ts : List Rows) (rest : List ℕ) : Type 0 where
+  pub few : readOf kind s .count ≤ kind .limit
+  pub others : List Rows
+  pub both : tableOf (readOf kind s) ∷ others ≡ ts
+  pub behind : tables kinds (readOf kind s .rest) ≡ got others rest
+
+pub first-kind : (kind : Kind) (kinds : List Kind) (s : List ℕ) (ts : List Rows) (rest : List ℕ) → tables (kind ∷ kinds) s ≡ got ts rest
+    → FirstKind kind kinds s ts rest
+first-kind kind kinds s ts rest e =
+    ⊎-elim
+    (λ (over : kind .limit < readOf kind s .count). absurd (not-both (tables-over kind kinds s over) e))
+    (λ (fine : readOf kind s .count ≤ kind .limit).
+    let more : List Rows → List ℕ → Outcome (List Rows) = λ us u. got (tableOf (readOf kind s) ∷ us) u in
+    let on : Onward (tables kinds (readOf kind s .rest)) more ts rest =
+    onward-back (tables kinds (readOf kind s .rest)) more ts rest (sym (tables-on kind kinds s fine) ∙ e) in
+    let same : got (tableOf (readOf kind s) ∷ on .value) (on .rest) ≡ got ts rest = on .then-on in
+    let value : tableOf (readOf kind s) ∷ on .value ≡ ts = cc in
+    let left : on .rest ≡ rest = cc in
+    record { few = fine; others = on .value; both = value; behind = on .first ∙ ap (got (on .value)) left })
+    (lt-or-le (kind .limit) (readOf kind s .count))
+
 pub record TablesBack (kinds : List Kind) (s : List ℕ) (ts : List Rows) (rest : List ℕ) : Type 0 where
   pub written : s ≡ tablesText kinds ts ++ rest
   pub fit : AllFit kinds ts
@@ -219,20 +241,10 @@ tables-back [] s ts rest e =
     let left : s ≡ rest = cc in
     subst (λ k. TablesBack [] s k rest) value (record { written = left; fit = tt })
 tables-back (kind ∷ kinds) s ts rest e =
-    ⊎-elim
-    (λ (over : kind .limit < readOf kind s .count). absurd (not-both (tables-over kind kinds s over) e))
-    (λ (fine : readOf kind s .count ≤ kind .limit).
-    let more : List Rows → List ℕ → Outcome (List Rows) = λ us u. got (tableOf (readOf kind s) ∷ us) u in
-    let on : Onward (tables kinds (readOf kind s .rest)) more ts rest =
-    onward-back (tables kinds (readOf kind s .rest)) more ts rest (sym (tables-on kind kinds s fine) ∙ e) in
-    let same : got (tableOf (readOf kind s) ∷ on .value) (on .rest) ≡ got ts rest = on .then-on in
-    let value : tableOf (readOf kind s) ∷ on .value ≡ ts = cc in
-    let left : on .rest ≡ rest = cc in
-    subst (λ k. TablesBack (kind ∷ kinds) s k rest) value
-    (tables-back-on kind kinds s (on .value) rest fine
-    (subst (TablesBack kinds (readOf kind s .rest) (on .value)) left
-    (tables-back kinds (readOf kind s .rest) (on .value) (on .rest) (on .first)))))
-    (lt-or-le (kind .limit) (readOf kind s .count))
+    let first : FirstKind kind kinds s ts rest = first-kind kind kinds s ts rest e in
+    subst (λ k. TablesBack (kind ∷ kinds) s k rest) (first .both)
+    (tables-back-on kind kinds s (first .others) rest (first .few)
+    (tables-back kinds (readOf kind s .rest) (first .others) rest (first .behind)))
 
 -- the last line
 pub ending-stop : (size : ℕ) (key : List ℕ) (c : Contents) (s : List ℕ) → line key 1 s ≡ missing → ending size key c s ≡ refused (unfit size s)
