@@ -6,7 +6,7 @@ use Prim.Native.Nat.{ℕ, _+_, _-_, _*_, _/_, _%_, _^_, _≤_, _<_, min}
 use mathlib.Core.List.{List}
 use mathlib.Core.Logic.{_⊎_}
 use lib.Dec.{ltb}
-use lib.ListN.{length}
+use lib.ListN.{length, set}
 use Rattle.lists.specs.Sums.{sumTo, at, bit, count}
 use Rattle.lists.specs.Entries.{put}
 use Rattle.division.specs.Limits.{mostWeights, potLimit, weightLimit}
@@ -60,6 +60,12 @@ centsOf pot weights whole i = pot * at weights i / whole
 -- a remainder with its place, so that the larger key comes first and no two are equal
 abbrev pub keyOf : ℕ → List ℕ → ℕ → ℕ → ℕ
 keyOf pot weights whole i = pot * at weights i % whole * 64 + (63 - i)
+
+-- one position's cents and key are stored, and r cents given
+pub record Kept (cents rest i : ℕ) (out out′ keys keys′ : List ℕ) (r : ℕ) : Type 0 where
+  pub stored : out′ ≡ set out i cents
+  pub placed : keys′ ≡ set keys i (rest * 64 + (63 - i))
+  pub given : r ≡ cents
 
 -- after the weights below `from` those below `to` are done too, with r cents more
 pub record Cut (pot : ℕ) (weights : List ℕ) (whole from to : ℕ) (out out′ keys keys′ : List ℕ) (r : ℕ) : Type 0 where
