@@ -1,14 +1,27 @@
 -- `division::cents::cut_four` meets its contract: the four are cut down as one after the other would be.
 -- Assumes nothing.
 use mathlib.Core.Path.{refl}
-use Prim.Native.Nat.{_≤_, _+_}
+use Prim.Native.Nat.{ℕ, _≤_, _<_, _+_}
 use native.Mathlib.Omega.{arith}
+use mir.Val.{Fits}
+use mir.Syntax.{w64}
+use lib.ListN.{length}
 use borrow.Author.Needs.{needs}
 use Rattle.division.specs.Limits.{potLimit}
 use Rattle.division.proofs.Bounds.{weight-fits}
 use Rattle.division.proofs.Cutting.{cut-next, cut-on, room-on, may-keep, cents-small}
 use Rattle.division.proofs.cents.cut_four.Statement.{statement}
 use Rattle.division.proofs.cents.cut_four.Tie as tie
+
+four-fit : {a b c d : ℕ} → a ≤ potLimit → b ≤ potLimit → c ≤ potLimit → d ≤ potLimit
+    → Fits w64 (a + b) × Fits w64 (a + b + c) × Fits w64 (a + b + c + d)
+four-fit p q r s = (omega arith, omega arith, omega arith)
+
+within : (start : tie.Start) → (start .args .i < length (start .args .weights .now)) × (start .args .i + 1 < length (start .args .weights .now)) × (start .args .i + 2 < length (start .args .weights .now)) × (start .args .i + 3 < length (start .args .weights .now))
+within start = (search needs, search needs, search needs, start .pre .1 .1)
+
+below : (start : tie.Start) → start .args .i + 3 < 64
+below start = omega (arith, start .pre .1 .0 .few, start .pre .1 .1)
 
 mul-quotients : tie.Need-mul-quotients
 mul-quotients c = search needs
@@ -49,14 +62,14 @@ quotients-requires c κs =
     let base = start .pre .0 in
     let fits = weight-fits (start .args .pot) (start .args .weights .now) (start .args .whole) base in (
       (base .pot-fits, base .positive, base .whole-fits),
-      (fits (start .args .i) (search needs), fits (start .args .i + 1) (search needs), fits (start .args .i + 2) (search needs), fits (start .args .i + 3) (search needs)),
+      (fits (start .args .i) (within start .0), fits (start .args .i + 1) (within start .1), fits (start .args .i + 2) (within start .2), fits (start .args .i + 3) (within start .3)),
     )
 
 keep-requires : tie.Need-keep-requires
 keep-requires c κs =
     let start = c .before .before .before .before .before .before .before .before .before .before in
     let parts = c .before .before .quotients .ensures in
-    may-keep (start .args .pot) (start .args .weights .now) (start .args .whole) (start .pre .0) (start .args .i) (search needs)
+    may-keep (start .args .pot) (start .args .weights .now) (start .args .whole) (start .pre .0) (start .args .i) (within start .0)
     (parts .at-first) (start .pre .1 .0)
 
 add-keep : tie.Need-add-keep
@@ -66,51 +79,51 @@ keep-requires-2 : tie.Need-keep-requires-2
 keep-requires-2 c κs =
     let start = c .before .before .before .before .before .before .before .before .before .before .before .before .before .before .before .before .before in
     let parts = c .before .before .before .before .before .before .before .before .before .quotients .ensures in
-    may-keep (start .args .pot) (start .args .weights .now) (start .args .whole) (start .pre .0) (start .args .i + 1) (search needs)
+    may-keep (start .args .pot) (start .args .weights .now) (start .args .whole) (start .pre .0) (start .args .i + 1) (within start .1)
     (parts .at-second) (room-on (start .pre .1 .0) (c .before .before .before .before .before .before .keep .ensures))
 
 add-keep-2 : tie.Need-add-keep-2
-add-keep-2 c = omega (arith, c .before .before .before .before .before .before .before .before .before .before .before .before .before .before .before .before .before .before .before .before .before .before .pre .1 .0 .few, c .before .before .before .before .before .before .before .before .before .before .before .before .before .before .before .before .before .before .before .before .before .before .pre .1 .1)
+add-keep-2 c = omega (arith, below (c .before .before .before .before .before .before .before .before .before .before .before .before .before .before .before .before .before .before .before .before .before .before))
 
 keep-requires-3 : tie.Need-keep-requires-3
 keep-requires-3 c κs =
     let start = c .before .before .before .before .before .before .before .before .before .before .before .before .before .before .before .before .before .before .before .before .before .before .before .before in
     let parts = c .before .before .before .before .before .before .before .before .before .before .before .before .before .before .before .before .quotients .ensures in
-    may-keep (start .args .pot) (start .args .weights .now) (start .args .whole) (start .pre .0) (start .args .i + 2) (search needs)
+    may-keep (start .args .pot) (start .args .weights .now) (start .args .whole) (start .pre .0) (start .args .i + 2) (within start .2)
     (parts .at-third) (room-on (room-on (start .pre .1 .0) (c .before .before .before .before .before .before .before .before .before .before .before .before .before .keep .ensures)) (c .before .before .before .before .before .before .keep2 .ensures))
 
 add-keep-3 : tie.Need-add-keep-3
-add-keep-3 c = omega (arith, c .before .before .before .before .before .before .before .before .before .before .before .before .before .before .before .before .before .before .before .before .before .before .before .before .before .before .before .before .before .pre .1 .0 .few, c .before .before .before .before .before .before .before .before .before .before .before .before .before .before .before .before .before .before .before .before .before .before .before .before .before .before .before .before .before .pre .1 .1)
+add-keep-3 c = omega (arith, below (c .before .before .before .before .before .before .before .before .before .before .before .before .before .before .before .before .before .before .before .before .before .before .before .before .before .before .before .before .before))
 
 keep-requires-4 : tie.Need-keep-requires-4
 keep-requires-4 c κs =
     let start = c .before .before .before .before .before .before .before .before .before .before .before .before .before .before .before .before .before .before .before .before .before .before .before .before .before .before .before .before .before .before .before in
     let parts = c .before .before .before .before .before .before .before .before .before .before .before .before .before .before .before .before .before .before .before .before .before .before .before .quotients .ensures in
-    may-keep (start .args .pot) (start .args .weights .now) (start .args .whole) (start .pre .0) (start .args .i + 3) (search needs)
+    may-keep (start .args .pot) (start .args .weights .now) (start .args .whole) (start .pre .0) (start .args .i + 3) (within start .3)
     (parts .at-fourth) (room-on (room-on (room-on (start .pre .1 .0) (c .before .before .before .before .before .before .before .before .before .before .before .before .before .before .before .before .before .before .before .before .keep .ensures)) (c .before .before .before .before .before .before .before .before .before .before .before .before .before .keep2 .ensures)) (c .before .before .before .before .before .before .keep3 .ensures))
 
-small : (c : tie.After-slice-known10) → (c .before .before .before .before .before .before .before .before .before .before .before .before .before .before .before .before .before .before .before .before .before .before .before .before .before .keep .result ≤ potLimit) × (c .before .before .before .before .before .before .before .before .before .before .before .before .before .before .before .before .before .before .keep2 .result ≤ potLimit) × (c .before .before .before .before .before .before .before .before .before .before .before .keep3 .result ≤ potLimit) × (c .before .before .before .before .keep4 .result ≤ potLimit)
-small c =
+sums-fit : (c : tie.After-slice-known10) → Fits w64 (c .before .before .before .before .before .before .before .before .before .before .before .before .before .before .before .before .before .before .before .before .before .before .before .before .before .keep .result + c .before .before .before .before .before .before .before .before .before .before .before .before .before .before .before .before .before .before .keep2 .result) × Fits w64 (c .before .before .before .before .before .before .before .before .before .before .before .before .before .before .before .before .before .before .before .before .before .before .before .before .before .keep .result + c .before .before .before .before .before .before .before .before .before .before .before .before .before .before .before .before .before .before .keep2 .result + c .before .before .before .before .before .before .before .before .before .before .before .keep3 .result) × Fits w64 (c .before .before .before .before .before .before .before .before .before .before .before .before .before .before .before .before .before .before .before .before .before .before .before .before .before .keep .result + c .before .before .before .before .before .before .before .before .before .before .before .before .before .before .before .before .before .before .keep2 .result + c .before .before .before .before .before .before .before .before .before .before .before .keep3 .result + c .before .before .before .before .keep4 .result)
+sums-fit c =
     let start = c .before .before .before .before .before .before .before .before .before .before .before .before .before .before .before .before .before .before .before .before .before .before .before .before .before .before .before .before .before .before .before .before .before .before .before .before in
     let parts = c .before .before .before .before .before .before .before .before .before .before .before .before .before .before .before .before .before .before .before .before .before .before .before .before .before .before .before .before .quotients .ensures in
     let pot = start .args .pot in
     let weights = start .args .weights .now in
     let whole = start .args .whole in
-    let base = start .pre .0 in (
-      cents-small pot weights whole base (start .args .i) (search needs) (parts .at-first) (c .before .before .before .before .before .before .before .before .before .before .before .before .before .before .before .before .before .before .before .before .before .before .before .before .before .keep .ensures),
-      cents-small pot weights whole base (start .args .i + 1) (search needs) (parts .at-second) (c .before .before .before .before .before .before .before .before .before .before .before .before .before .before .before .before .before .before .keep2 .ensures),
-      cents-small pot weights whole base (start .args .i + 2) (search needs) (parts .at-third) (c .before .before .before .before .before .before .before .before .before .before .before .keep3 .ensures),
-      cents-small pot weights whole base (start .args .i + 3) (search needs) (parts .at-fourth) (c .before .before .before .before .keep4 .ensures),
-    )
+    let base = start .pre .0 in
+    four-fit
+    (cents-small pot weights whole base (start .args .i) (within start .0) (parts .at-first) (c .before .before .before .before .before .before .before .before .before .before .before .before .before .before .before .before .before .before .before .before .before .before .before .before .before .keep .ensures))
+    (cents-small pot weights whole base (start .args .i + 1) (within start .1) (parts .at-second) (c .before .before .before .before .before .before .before .before .before .before .before .before .before .before .before .before .before .before .keep2 .ensures))
+    (cents-small pot weights whole base (start .args .i + 2) (within start .2) (parts .at-third) (c .before .before .before .before .before .before .before .before .before .before .before .keep3 .ensures))
+    (cents-small pot weights whole base (start .args .i + 3) (within start .3) (parts .at-fourth) (c .before .before .before .before .keep4 .ensures))
 
 add-result : tie.Need-add-result
-add-result c = omega (arith, small c)
+add-result c = sums-fit c .0
 
 add-result-2 : tie.Need-add-result-2
-add-result-2 c = omega (arith, small c)
+add-result-2 c = sums-fit c .1
 
 add-result-3 : tie.Need-add-result-3
-add-result-3 c = omega (arith, small c)
+add-result-3 c = sums-fit c .2
 
 same-length : tie.Need-same-length
 same-length c = search needs
