@@ -52,7 +52,7 @@ pub fn divide(pot: u64, weights: &[u64], out: &mut [u64]) -> Division
     if out.len() < count {
         return answered(ROOM);
     }
-    let sum = limits::sum_capped(weights, limits::WEIGHT_LIMIT + 1);
+    let sum = lists::sum_capped(weights, limits::WEIGHT_LIMIT + 1);
     let number = limits::size_refusal(pot, sum);
     if number != ACCEPTED {
         return answered(number);
@@ -73,12 +73,12 @@ pub fn check(pot: u64, weights: &[u64], amounts: &[u64]) -> Verdict
     if amounts.len() != count {
         return Verdict::Refused(COUNT);
     }
-    let sum = limits::sum_capped(weights, limits::WEIGHT_LIMIT + 1);
+    let sum = lists::sum_capped(weights, limits::WEIGHT_LIMIT + 1);
     let refusal = limits::size_refusal(pot, sum);
     if refusal != ACCEPTED {
         return Verdict::Refused(refusal);
     }
-    let handed_out = limits::sum_capped(amounts, limits::POT_LIMIT + 1);
+    let handed_out = lists::sum_capped(amounts, limits::POT_LIMIT + 1);
     if handed_out != pot {
         return Verdict::No;
     }

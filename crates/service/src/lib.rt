@@ -31,20 +31,6 @@ struct ZoneCharged {
     nonzone: u64,
 }
 
-// All zone use, or all non-zone use: the parts added up.
-fn sum(numbers: &[u64]) -> u64
-    requires { ⌜ total (now numbers) < 2 ^ 64 ⌝ }
-    ensures { λ r. ⌜ r ≡ total (now (numbers .entry)) ⌝ }
-{
-    let mut sum = 0;
-    let mut i = 0;
-    while i < numbers.len() {
-        sum += numbers[i];
-        i += 1;
-    }
-    sum
-}
-
 // A pot in two by two uses, zone side first.
 fn split(pot: u64, zone: u64, nonzone: u64) -> Sides
     ensures { λ r. ⌜ Split pot (zone ∷ nonzone ∷ []) r ⌝ }
