@@ -2,9 +2,9 @@
 use crate::quotients;
 use crate::quotients::Part;
 ghost use mathlib.Core.Path.{_≡_};
-ghost use Prim.Native.Nat.{ℕ, _*_, _/_, _%_, _^_, _≤_, _<_, _+_, _-_};
+ghost use Prim.Native.Nat.{ℕ, _*_, _/_, _^_, _≤_, _<_, _+_, _-_};
 ghost use lib.ListN.{length};
-ghost use Rattle.lists.specs.Sums.{sumTo, at, total};
+ghost use Rattle.lists.specs.Sums.{at, total};
 ghost use Rattle.lists.specs.Entries.{put};
 ghost use Rattle.division.specs.Limits.{mostWeights, weightLimit, sizeRefusal};
 ghost use Rattle.division.specs.Shares.{share};
