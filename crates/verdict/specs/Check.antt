@@ -14,7 +14,7 @@ use Rattle.division.specs.Limits.{mostWeights, sizeRefusal}
 use Rattle.verdict.specs.declared.Verdict.{Verdict}
 use Rattle.verdict.specs.declared.Verdict.the-variants.{Yes, No, Refused}
 
--- "the check [looks] at COUNT, BIG, BASE": more than 64 weights; weights and amounts differ in number
+-- "the check at COUNT, BIG, BASE": more than 64 weights; weights and amounts differ in number
 unfoldable pub checkRefusal : ℕ → List ℕ → List ℕ → ℕ
 checkRefusal pot weights amounts =
     look (ltb mostWeights (length weights) || not (eqb (length weights) (length amounts))) COUNT

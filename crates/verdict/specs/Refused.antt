@@ -10,7 +10,7 @@ use Rattle.answer.specs.Numbers.{COUNT}
 use Rattle.division.specs.Limits.{mostWeights}
 use Rattle.division.specs.Refused.{SizeRefused}
 
--- "the check [looks] at COUNT, BIG, BASE"
+-- "the check at COUNT, BIG, BASE"
 pub data CheckRefused (pot : ℕ) (weights amounts : List ℕ) (n : ℕ) : Type 0 where
   by-many : n ≡ COUNT → mostWeights < length weights → CheckRefused pot weights amounts n
   by-unlike : n ≡ COUNT → length weights ≢ length amounts → CheckRefused pot weights amounts n

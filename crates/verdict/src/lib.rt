@@ -1,6 +1,6 @@
-// Judging a division that anyone hands in: whether its amounts add up to the pot and no other list with that sum lies closer
-// to the exact shares. Where fractions tie more than one list does, and every one passes. `specs/` says what is right, and
-// `proofs/Promises.antt` what follows from it.
+// Judging a division that anyone hands in: its amounts pass where they add up to the pot and no other list with that sum lies
+// closer to the exact shares. Where fractions tie several lists are as close, and each of them passes. `specs/` says what is
+// right, `proofs/Promises.antt` what follows from it, and `proofs/Laws.antt` what the crates above may cite.
 use answer::ACCEPTED;
 use answer::COUNT;
 use division::limits;
