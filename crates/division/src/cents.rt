@@ -45,6 +45,7 @@ fn cut_one(
     keep(part, i, out, keys)
 }
 
+// The same for four weights at once.
 fn cut_four(
     pot: u64,
     weights: &[u64],
