@@ -1,9 +1,8 @@
 -- Bounds of the parts of a division: a weight is at most the whole, its cents at most the pot, its remainder below the whole.
 -- Assumes nothing.
-use mathlib.Core.Path.{_≡_, sym, ap, _∙_}
-use Prim.Native.Nat.{ℕ, _+_, _*_, _/_, _%_, _≤_, _<_}
+use mathlib.Core.Path.{sym}
+use Prim.Native.Nat.{ℕ, _*_, _%_, _≤_, _<_}
 use native.Mathlib.Nat.{le-trans, le-of-eq, mul-comm, div-le-of-le-mul, mul-le-mul-left, mod-lt, mul-div-le, le-of-mul-le-mul-left}
-use native.Mathlib.Omega.{arith}
 use mathlib.Core.List.{List}
 use lib.ListN.{length}
 use Rattle.lists.specs.Sums.{sumTo, at}

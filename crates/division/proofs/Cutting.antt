@@ -1,18 +1,28 @@
 -- Cutting down one weight after the other: each stretch of weights goes on from where the one before left off.
 -- Assumes nothing.
-use mathlib.Core.Path.{_≡_, refl, sym, ap, ap₂, _∙_}
+use mathlib.Core.Path.{_≡_, sym, ap, ap₂, _∙_}
 use mathlib.Core.List.{List}
 use Prim.Native.Nat.{ℕ, _+_, _*_, _-_, _≤_, _<_}
 use native.Mathlib.Nat.{le-trans, le-of-eq, add-zero, zero-add}
 use native.Mathlib.Omega.{arith}
-use lib.ListN.{length, set}
+use lib.ListN.{length, set, length-set}
 use Rattle.lists.specs.Sums.{sumTo, at}
 use Rattle.lists.specs.Entries.{put}
 use Rattle.lists.proofs.Sums.{sum-none, sum-suc}
 use Rattle.lists.proofs.Entries.{put-none, put-suc}
-use Rattle.division.specs.Limits.{potLimit, weightLimit}
-use Rattle.division.specs.Steps.{Base, Quotient, Cut, CutDown, centsOf, keyOf}
+use Rattle.division.specs.Limits.{mostWeights, potLimit, weightLimit}
+use Rattle.division.specs.Steps.{Base, Room, Quotient, Kept, Cut, CutDown, centsOf, keyOf}
 use Rattle.division.proofs.Bounds.{given-fits, cents-fit, rest-fits}
+
+-- what is kept takes no room away
+pub room-on : {weights out out′ keys keys′ : List ℕ} {cents rest i r : ℕ} → Room weights out keys
+    → Kept cents rest i out out′ keys keys′ r → Room weights out′ keys′
+room-on room kept =
+    record {
+      few = room .few;
+      cents-room = le-trans (room .cents-room) (le-of-eq (sym (ap length (kept .stored) ∙ simp length-set)));
+      keys-room = le-trans (room .keys-room) (le-of-eq (sym (ap length (kept .placed) ∙ simp length-set)));
+    }
 
 module _ (pot : ℕ) (weights : List ℕ) (whole : ℕ) where
   pub cut-none : (n : ℕ) (out keys : List ℕ) → Cut pot weights whole n n out out keys keys 0
@@ -29,42 +39,26 @@ module _ (pot : ℕ) (weights : List ℕ) (whole : ℕ) where
         placed = λ l e. two .placed l (one .placed l e);
       }
 
-  -- one weight's cents and key are stored
-  pub cut-next : (i next : ℕ) (out keys : List ℕ) (cents rest key : ℕ) → next ≡ i + 1
-      → Quotient pot (at weights i) whole cents rest → key ≡ rest * 64 + (63 - i)
-      → Cut pot weights whole i next out (set out i cents) keys (set keys i key) cents
-  cut-next i next out keys cents rest key is-next part is-key =
+  pub cut-next : (i next : ℕ) {out out′ keys keys′ : List ℕ} {cents rest r : ℕ} → next ≡ i + 1
+      → Quotient pot (at weights i) whole cents rest → Kept cents rest i out out′ keys keys′ r
+      → Cut pot weights whole i next out out′ keys keys′ r
+  cut-next i next is-next part kept =
       record {
         given =
-            ap (λ n. sumTo i (centsOf pot weights whole) + n) (part .cents-are)
+            ap (λ n. sumTo i (centsOf pot weights whole) + n) (kept .given ∙ part .cents-are)
             ∙ sym (sum-suc i (centsOf pot weights whole))
             ∙ ap (λ n. sumTo n (centsOf pot weights whole)) (sym is-next);
         cents = λ l e.
-            ap₂ (λ o n. set o i n) e (part .cents-are)
+            kept .stored
+            ∙ ap₂ (λ o n. set o i n) e (part .cents-are)
             ∙ sym (put-suc i (centsOf pot weights whole) l)
             ∙ ap (λ n. put n (centsOf pot weights whole) l) (sym is-next);
         placed = λ l e.
-            ap₂ (λ o n. set o i n) e (is-key ∙ ap (λ n. n * 64 + (63 - i)) (part .rest-is))
+            kept .placed
+            ∙ ap₂ (λ o n. set o i n) e (ap (λ n. n * 64 + (63 - i)) (part .rest-is))
             ∙ sym (put-suc i (keyOf pot weights whole) l)
             ∙ ap (λ n. put n (keyOf pot weights whole) l) (sym is-next);
       }
-
-  pub cut-next-four : (i : ℕ) (out keys : List ℕ) (c₁ c₂ c₃ c₄ r₁ r₂ r₃ r₄ k₁ k₂ k₃ k₄ : ℕ)
-      → Quotient pot (at weights i) whole c₁ r₁ → Quotient pot (at weights (i + 1)) whole c₂ r₂
-      → Quotient pot (at weights (i + 2)) whole c₃ r₃ → Quotient pot (at weights (i + 3)) whole c₄ r₄
-      → k₁ ≡ r₁ * 64 + (63 - i) → k₂ ≡ r₂ * 64 + (63 - (i + 1)) → k₃ ≡ r₃ * 64 + (63 - (i + 2)) → k₄ ≡ r₄ * 64 + (63 - (i + 3))
-      → Cut pot weights whole i (i + 4)
-      out (set (set (set (set out i c₁) (i + 1) c₂) (i + 2) c₃) (i + 3) c₄)
-      keys (set (set (set (set keys i k₁) (i + 1) k₂) (i + 2) k₃) (i + 3) k₄)
-      (c₁ + c₂ + c₃ + c₄)
-  cut-next-four i out keys c₁ c₂ c₃ c₄ r₁ r₂ r₃ r₄ k₁ k₂ k₃ k₄ q₁ q₂ q₃ q₄ e₁ e₂ e₃ e₄ =
-      cut-on
-      (cut-on
-      (cut-on
-      (cut-next i (i + 1) out keys c₁ r₁ k₁ refl q₁ e₁)
-      (cut-next (i + 1) (i + 2) (set out i c₁) (set keys i k₁) c₂ r₂ k₂ (omega arith) q₂ e₂))
-      (cut-next (i + 2) (i + 3) (set (set out i c₁) (i + 1) c₂) (set (set keys i k₁) (i + 1) k₂) c₃ r₃ k₃ (omega arith) q₃ e₃))
-      (cut-next (i + 3) (i + 4) (set (set (set out i c₁) (i + 1) c₂) (i + 2) c₃) (set (set (set keys i k₁) (i + 1) k₂) (i + 2) k₃) c₄ r₄ k₄ (omega arith) q₄ e₄)
 
   pub cut-to : {a b c : ℕ} {out out′ keys keys′ : List ℕ} {r : ℕ} → b ≡ c
       → Cut pot weights whole a b out out′ keys keys′ r → Cut pot weights whole a c out out′ keys keys′ r
@@ -80,10 +74,20 @@ module _ (pot : ℕ) (weights : List ℕ) (whole : ℕ) where
       }
 
   module _ (base : Base pot weights whole) where
-    pub part-fits : (i cents rest : ℕ) → i < length weights → Quotient pot (at weights i) whole cents rest → (cents ≤ potLimit) × (rest ≤ weightLimit)
-    part-fits i cents rest b part = (
-      le-trans (le-of-eq (part .cents-are)) (le-trans (cents-fit pot weights whole base i b) (base .pot-fits)),
-      omega (arith, part .rest-is, rest-fits pot weights whole base i, base .whole-fits),
+    pub cents-small : (i : ℕ) {out out′ keys keys′ : List ℕ} {cents rest r : ℕ} → i < length weights
+        → Quotient pot (at weights i) whole cents rest → Kept cents rest i out out′ keys keys′ r → r ≤ potLimit
+    cents-small i b part kept =
+        le-trans (le-of-eq (kept .given ∙ part .cents-are)) (le-trans (cents-fit pot weights whole base i b) (base .pot-fits))
+
+    pub may-keep : (i : ℕ) {out keys : List ℕ} {cents rest : ℕ} → i < length weights
+        → Quotient pot (at weights i) whole cents rest → Room weights out keys
+        → ((rest ≤ weightLimit) × (i < mostWeights)) × ((i < length out) × (i < length keys))
+    may-keep i b part room = (
+      (
+        omega (arith, part .rest-is, rest-fits pot weights whole base i, base .whole-fits),
+        omega (arith, room .few),
+      ),
+      (omega (arith, room .cents-room), omega (arith, room .keys-room)),
     )
 
     -- no more than 64 times the largest pot is given out

@@ -1,37 +1,38 @@
 -- What the crates above may cite of a division, and nothing else: how many shares there are, what they add up to, that no
--- weight gets nothing, and that dividing among some is dividing among those alone.
+-- weight gets nothing, that dividing among some is dividing among those alone, and that the shares are level.
 -- Assumes nothing.
 use mathlib.Core.Path.{_≡_, refl, sym, ap, ap₂, _∙_, subst}
 use mathlib.Core.Logic.{_⊎_, inl, inr, ⊎-elim, _≢_}
 use mathlib.Core.Bool.{Bool, true, false}
 use mathlib.Core.List.{List}
-use Prim.Native.Nat.{ℕ, _+_, _/_, _≤_, _<_, min}
+use Prim.Native.Nat.{ℕ, _+_, _*_, _/_, _≤_, _<_, min}
 use native.Mathlib.Nat.{le-trans, zero-mul, zero-div, zero-sub}
 use native.Mathlib.Omega.{arith}
 use lib.Dec.{ltb}
 use lib.ListN.{length, List·getD-eq-default}
-use borrow.Author.Tests.{le-ltb, lt-ltb, ltb-false}
+use borrow.Author.Tests.{le-ltb, lt-ltb, le-leb, ltb-false}
 use Rattle.lists.specs.Sums.{sumTo, at, total, bit, count, rank}
 use Rattle.lists.specs.Entries.{kept}
-use Rattle.lists.proofs.Sums.{le-sum, sum-zero}
-use Rattle.lists.proofs.Ranks.{lt-or-le}
+use Rattle.lists.proofs.Sums.{le-sum, sum-zero, every-from}
+use Rattle.lists.proofs.Ranks.{lt-or-le, true-or-false}
 use Rattle.lists.proofs.Entries.{length-listed, at-listed, total-listed}
 use Rattle.lists.proofs.Members.{length-kept, place-below}
 use Rattle.answer.specs.Numbers.{COUNT, BIG, BASE}
 use Rattle.answer.proofs.Turns.{zero-or-not, look-none}
+use Rattle.closeness.specs.Closeness.{level}
 use Rattle.division.specs.Limits.{mostWeights, potLimit, weightLimit, sizeRefusal, divideRefusal}
-use Rattle.division.specs.Shares.{quotient, leftover, comesBefore, getsCent, share, shares}
+use Rattle.division.specs.Shares.{quotient, remainder, leftover, comesBefore, getsCent, share, shares}
 use Rattle.division.specs.Refused.{SizeRefused, by-big, by-base}
-use Rattle.division.specs.Check.{verdict, numberOf}
-use Rattle.division.specs.declared.Verdict.the-variants.{Refused}
 use Rattle.division.proofs.Handed.{sized}
-use Rattle.division.proofs.Parts.{share-is, shares-sum, nothing-cut}
+use Rattle.division.proofs.Parts.{exact, remainder-below, larger-gets, share-is, shares-sum, nothing-cut}
 use Rattle.division.proofs.Refusals as refusals
-use Rattle.division.proofs.Verdicts as verdicts
 use Rattle.division.proofs.Reasons as reasons
 use Rattle.division.proofs.Members.{no-quotient, no-remainder, share-alone, total-kept}
--- the number of a call with the right counts, and what it leaves in the lent words
-pub use Rattle.division.proofs.Refusals.{by-size, memory-accepted, memory-refused}
+-- the number of a call with the right counts, what it leaves in the lent words, and a sum that stops at one above its limit
+pub use Rattle.division.proofs.Refusals.{by-size, memory-accepted, memory-refused, number-is, sum-is}
+-- sizes that are not refused, and why others are
+pub use Rattle.division.proofs.Handed.{Sized, sized}
+pub use Rattle.division.proofs.Reasons.{size-why, why-size, size-within, fits-size}
 
 -- there are as many shares as weights
 pub length-shares : (pot : ℕ) (weights : List ℕ) → length (shares pot weights) ≡ length weights
@@ -112,6 +113,38 @@ pub total-among : (weights : List ℕ) (member : ℕ → Bool) → ((i : ℕ) �
     → total (kept (length weights) member (at weights)) ≡ total weights
 total-among weights member others = total-kept 0 weights member others
 
+-- the shares are level, since no position that gets no cent has a larger remainder than one that gets one: with q, r for quotient and remainder and b for the cent, w·b i + r j ≤ w·b j + r i + w
+module _ (pot : ℕ) (weights : List ℕ) (positive : 0 < total weights) where
+  cent : ℕ → ℕ
+  cent i = bit (getsCent pot weights i)
+
+  scaled : (i : ℕ) → i < length weights
+      → total weights * at (shares pot weights) i ≡ total weights * quotient pot weights i + total weights * cent i
+  unfolding cent
+  scaled i b =
+      let s : at (shares pot weights) i ≡ quotient pot weights i + cent i = at-shares pot weights i b ∙ share-is pot weights i in
+      omega (arith, ap (λ k. total weights * k) s)
+
+  cents-level : (i j : ℕ) → i < length weights → j < length weights
+      → total weights * cent i + remainder pot weights j ≤ total weights * cent j + remainder pot weights i + total weights
+  unfolding cent
+  cents-level i j bi bj =
+      ⊎-elim
+      (λ (gi : getsCent pot weights i ≡ true).
+      ⊎-elim
+      (λ (gj : getsCent pot weights j ≡ true). rw (gi, gj) (omega (arith, remainder-below pot weights positive j)))
+      (λ (fj : getsCent pot weights j ≡ false). rw (gi, fj) (omega (arith, larger-gets pot weights positive i j bj gi fj)))
+      (true-or-false (getsCent pot weights j)))
+      (λ (fi : getsCent pot weights i ≡ false). rw fi (omega (arith, remainder-below pot weights positive j)))
+      (true-or-false (getsCent pot weights i))
+
+  pub shares-level : level pot weights (shares pot weights) ≡ true
+  unfolding level
+  shares-level =
+      every-from (length weights) _ (λ i bi. every-from (length weights) _ (λ j bj.
+      le-leb (total weights * at (shares pot weights) i + pot * at weights j) (total weights * at (shares pot weights) j + pot * at weights i + total weights)
+      (omega (arith, scaled i bi, scaled j bj, exact pot weights positive i, exact pot weights positive j, cents-level i j bi bj))))
+
 -- what is known of sizes that are not refused, and the sizes that are not
 pub size-accepted : (pot w : ℕ) → sizeRefusal pot w ≡ 0 → (pot ≤ potLimit) × (w ≤ weightLimit) × (w ≡ 0 → pot ≡ 0)
 size-accepted pot w e = let s = sized pot w e in (s .pot-fits, s .sum-fits, s .zero-sum)
@@ -166,28 +199,10 @@ enough-room pot weights room few =
     (lt-or-le room (length weights))
 
 -- no refusal has a number above BASE
-zero-or-within : (n : ℕ) → (n ≢ 0 → n ≤ BASE) → n ≤ BASE
+pub zero-or-within : (n : ℕ) → (n ≢ 0 → n ≤ BASE) → n ≤ BASE
 zero-or-within n refused = ⊎-elim (λ (z : n ≡ 0). omega arith) refused (zero-or-not n)
 
 pub divide-number : (pot : ℕ) (weights : List ℕ) (room : ℕ) → divideRefusal pot weights room ≤ BASE
 divide-number pot weights room =
     let n = divideRefusal pot weights room in
     zero-or-within n (λ d. reasons.divide-within pot weights room n (reasons.divide-why pot weights room n (refl, d)))
-
-pub check-number : (pot : ℕ) (weights amounts : List ℕ) → numberOf (verdict pot weights amounts) ≤ BASE
-check-number pot weights amounts =
-    let n = numberOf (verdict pot weights amounts) in
-    zero-or-within n
-    (λ d.
-    reasons.check-within pot weights amounts n
-    (reasons.check-why pot weights amounts n (sym (verdicts.its-number pot weights amounts), d)))
-
--- a check of more than 64 weights, or of another number of amounts than weights, is refused with COUNT
-pub check-many-weights : (pot : ℕ) (weights amounts : List ℕ) → mostWeights < length weights → verdict pot weights amounts ≡ Refused COUNT
-check-many-weights pot weights amounts h =
-    sym (verdicts.refused pot weights amounts COUNT (verdicts.too-many pot weights amounts h) (λ e. omega arith))
-
-pub check-unlike : (pot : ℕ) (weights amounts : List ℕ) → length weights ≤ mostWeights → length amounts ≢ length weights
-    → verdict pot weights amounts ≡ Refused COUNT
-check-unlike pot weights amounts few d =
-    sym (verdicts.refused pot weights amounts COUNT (verdicts.unlike pot weights amounts few d) (λ e. omega arith))

@@ -5,8 +5,6 @@ pub mod Cutting
 pub mod Standing
 pub mod Handed
 pub mod Refusals
-pub mod Heights
-pub mod Verdicts
 pub mod Reasons
 pub mod Parts
 pub mod Members

@@ -1,19 +1,19 @@
 -- How the shares are made: the remainders add up to the leftover cents, so there are fewer of those than positions with a
 -- remainder above zero; exactly as many positions as there are leftover cents get one.
 -- Assumes nothing.
-use mathlib.Core.Path.{_≡_, refl, sym, ap, ap₂, _∙_, subst}
-use mathlib.Core.Logic.{_⊎_, inl, inr, ⊎-elim, _≢_}
-use mathlib.Core.Bool.{Bool, true, false, true≢false}
+use mathlib.Core.Path.{_≡_, refl, sym, ap, _∙_}
+use mathlib.Core.Logic.{_⊎_, ⊎-elim}
+use mathlib.Core.Bool.{Bool, true, false}
 use mathlib.Core.List.{List}
-use Prim.Native.Nat.{ℕ, _+_, _-_, _*_, _/_, _%_, _≤_, _<_, min}
-use native.Mathlib.Nat.{le-trans, le-of-eq, le-refl, div-add-mod, mod-lt, mul-add, le-of-mul-le-mul-left, min-eq-left, mul-comm, zero-mod, zero-div, mul-zero, zero-mul}
+use Prim.Native.Nat.{ℕ, _+_, _-_, _*_, _≤_, _<_}
+use native.Mathlib.Nat.{le-trans, le-of-eq, div-add-mod, mod-lt, le-of-mul-le-mul-left, min-eq-left, mul-comm}
 use native.Mathlib.Omega.{arith}
 use lib.Dec.{ltb}
 use lib.ListN.{length}
 use borrow.Author.Tests.{lt-ltb, le-ltb, ltb-true, ltb-false}
 use Rattle.lists.specs.Sums.{sumTo, at, total, bit, count, rank}
-use Rattle.lists.proofs.Sums.{sum-add, sum-mul, sum-eq, sum-le, sum-zero, count-le, count-implied, bit-le}
-use Rattle.lists.proofs.Ranks.{Ordered, ranks-below, rank-less, largest-first-ordered, larger-first, lt-or-le, true-or-false, smaller-later}
+use Rattle.lists.proofs.Sums.{sum-add, sum-mul, sum-eq, sum-le, count-le, count-implied}
+use Rattle.lists.proofs.Ranks.{Ordered, ranks-below, rank-less, largest-first-ordered, larger-first, lt-or-le}
 use Rattle.division.specs.Shares.{quotient, remainder, leftover, comesBefore, getsCent, share}
 
 -- whether anything was cut off at a position

@@ -1,22 +1,19 @@
--- What is promised of every division and of every check, beyond their definitions. Nothing else stands here; the proofs cite
--- `Parts`, `Reasons`, `Verdicts` and `Passing`.
+-- What is promised of every division, beyond its definition. Nothing else stands here; the proofs cite `Parts`, `Reasons` and
+-- `Passing`.
 -- Assumes nothing.
-use mathlib.Core.Path.{_≡_, refl, sym}
+use mathlib.Core.Path.{_≡_}
 use mathlib.Core.Logic.{_⊎_, _↔_, _≢_}
 use mathlib.Core.Bool.{true}
 use mathlib.Core.List.{List}
 use Prim.Native.Nat.{ℕ, _+_, _≤_, _<_}
 use lib.ListN.{length}
 use Rattle.lists.specs.Sums.{at, total, count, bit}
-use Rattle.closeness.specs.Closeness.{distance, Closest}
-use Rattle.division.specs.Limits.{mostWeights, potLimit, weightLimit, divideRefusal, checkRefusal}
+use Rattle.closeness.specs.Closeness.{distance}
+use Rattle.division.specs.Limits.{mostWeights, potLimit, weightLimit, divideRefusal}
 use Rattle.division.specs.Shares.{quotient, remainder, leftover, getsCent, share, shares, Divided}
-use Rattle.division.specs.Check.{verdict, answerOf}
-use Rattle.division.specs.Refused.{DivideRefused, CheckRefused}
+use Rattle.division.specs.Refused.{DivideRefused}
 use Rattle.division.specs.declared.Division.{Division}
-use Rattle.division.specs.declared.Verdict.the-variants.{Yes, No, Refused}
 use Rattle.division.proofs.Reasons as reasons
-use Rattle.division.proofs.Verdicts as verdicts
 use Rattle.division.proofs.Parts as parts
 use Rattle.division.proofs.Passing as passing
 
@@ -27,36 +24,15 @@ pub divide-accepts : (pot : ℕ) (weights : List ℕ) (room : ℕ)
     ↔ ((length weights ≤ mostWeights) × (length weights ≤ room) × (pot ≤ potLimit) × (total weights ≤ weightLimit) × (total weights ≡ 0 → pot ≡ 0))
 divide-accepts = passing.divide-accepts
 
--- likewise the check: at most 64 weights, as many amounts, and the same of the sizes
-pub check-accepts : (pot : ℕ) (weights amounts : List ℕ)
-    → (checkRefusal pot weights amounts ≡ 0)
-    ↔ ((length weights ≤ mostWeights) × (length weights ≡ length amounts) × (pot ≤ potLimit) × (total weights ≤ weightLimit) × (total weights ≡ 0 → pot ≡ 0))
-check-accepts = passing.check-accepts
-
 -- a division is refused with a number exactly when that is the number of the first of COUNT, ROOM, BIG, BASE that holds
 pub divide-refused-why : (pot : ℕ) (weights : List ℕ) (room n : ℕ)
     → ((divideRefusal pot weights room ≡ n) × (n ≢ 0)) ↔ DivideRefused pot weights room n
 divide-refused-why pot weights room n = (reasons.divide-why pot weights room n, reasons.why-divide pot weights room n)
 
--- likewise the check with COUNT, BIG, BASE
-pub check-refused-why : (pot : ℕ) (weights amounts : List ℕ) (n : ℕ)
-    → ((checkRefusal pot weights amounts ≡ n) × (n ≢ 0)) ↔ CheckRefused pot weights amounts n
-check-refused-why pot weights amounts n = (reasons.check-why pot weights amounts n, reasons.why-check pot weights amounts n)
-
--- "table and row are 0" in the answer of every division ..
+-- "table and row are 0" in the answer of every division
 pub divide-answers : (pot : ℕ) (weights before after : List ℕ) (r : Division) → Divided pot weights before after r
     → r .answer ≡ record { number = divideRefusal pot weights (length before); table = 0; row = 0 }
 divide-answers pot weights before after r d = λ i. record { number = d .number i; table = d .table i; row = d .row i }
-
--- .. and in that of every check
-pub check-answers : (pot : ℕ) (weights amounts : List ℕ)
-    → answerOf (verdict pot weights amounts) ≡ record { number = checkRefusal pot weights amounts; table = 0; row = 0 }
-check-answers pot weights amounts = λ i. record { number = verdicts.its-number pot weights amounts i; table = 0; row = 0 }
-
--- "A refused check says neither yes nor no"
-pub refused-says-neither : (pot : ℕ) (weights amounts : List ℕ) → checkRefusal pot weights amounts ≢ 0
-    → verdict pot weights amounts ≡ Refused (checkRefusal pot weights amounts)
-refused-says-neither pot weights amounts d = sym (verdicts.refused pot weights amounts (checkRefusal pot weights amounts) refl d)
 
 -- the shares add up to the pot
 pub shares-add-up : (pot : ℕ) (weights : List ℕ) → 0 < total weights → total (shares pot weights) ≡ pot
@@ -92,29 +68,3 @@ leftover-cents-to-the-largest = passing.leftover-cents-to-the-largest
 -- a share is the quotient, with one cent more exactly where the position gets one
 pub share-and-cent : (pot : ℕ) (weights : List ℕ) (i : ℕ) → share pot weights i ≡ quotient pot weights i + bit (getsCent pot weights i)
 share-and-cent = parts.share-is
-
--- the check within the limits says yes exactly when the amounts add up to the pot and no list of whole numbers of the same
--- length with that sum lies closer to the exact shares
-pub yes-means-closest : (pot : ℕ) (weights amounts : List ℕ) → 0 < total weights → checkRefusal pot weights amounts ≡ 0
-    → (verdict pot weights amounts ≡ Yes) ↔ ((total amounts ≡ pot) × Closest pot weights amounts)
-yes-means-closest = passing.yes-means-closest
-
--- otherwise it says no
-pub yes-or-no : (pot : ℕ) (weights amounts : List ℕ) → checkRefusal pot weights amounts ≡ 0
-    → (verdict pot weights amounts ≡ Yes) ⊎ (verdict pot weights amounts ≡ No)
-yes-or-no = passing.yes-or-no
-
--- each amount that it passes is less than one cent from its exact share
-pub passed-within-a-cent : (pot : ℕ) (weights amounts : List ℕ) → 0 < total weights → verdict pot weights amounts ≡ Yes
-    → (i : ℕ) → i < length weights → distance pot weights amounts i < total weights
-passed-within-a-cent = passing.passed-within-a-cent
-
--- it passes every division that we make
-pub divisions-pass : (pot : ℕ) (weights : List ℕ) (room : ℕ) → divideRefusal pot weights room ≡ 0
-    → verdict pot weights (shares pot weights) ≡ Yes
-divisions-pass = passing.divisions-pass
-
--- "For W and P both zero it says yes exactly when all amounts are zero"
-pub no-base-no-amounts : (weights amounts : List ℕ) → total weights ≡ 0 → checkRefusal 0 weights amounts ≡ 0
-    → (verdict 0 weights amounts ≡ Yes) ↔ ((i : ℕ) → at amounts i ≡ 0)
-no-base-no-amounts = passing.no-base-no-amounts

@@ -1,19 +1,19 @@
--- Why a call is refused: for each condition in turn, it holds and gives the number, or it does not and the next one is looked at.
+-- Why a division is refused: for each condition in turn, it holds and gives the number, or it does not and the next one is looked at.
 -- Assumes nothing.
 use mathlib.Core.Path.{_≡_, sym, _∙_}
 use mathlib.Core.Logic.{_⊎_, inl, inr, ⊎-elim, _≢_}
-use mathlib.Core.Bool.{true, false, or-true, and-false}
+use mathlib.Core.Bool.{or-true, and-false}
 use mathlib.Core.List.{List}
 use Prim.Native.Nat.{ℕ, _≤_, _<_}
 use native.Mathlib.Omega.{arith}
-use lib.Dec.{ltb, eqb}
+use lib.Dec.{ltb}
 use lib.ListN.{length}
-use borrow.Author.Tests.{lt-ltb, le-ltb, eq-eqb, ne-eqb, eqb-true, eqb-false}
+use borrow.Author.Tests.{lt-ltb, le-ltb, eq-eqb, ne-eqb}
 use Rattle.lists.specs.Sums.{total}
-use Rattle.lists.proofs.Ranks.{lt-or-le, true-or-false}
+use Rattle.lists.proofs.Ranks.{lt-or-le}
 use Rattle.answer.specs.Numbers.{BIG, BASE}
 use Rattle.answer.proofs.Turns.{zero-or-not}
-use Rattle.division.specs.Limits.{mostWeights, potLimit, weightLimit, sizeRefusal, divideRefusal, checkRefusal}
+use Rattle.division.specs.Limits.{mostWeights, potLimit, weightLimit, sizeRefusal, divideRefusal}
 use Rattle.division.specs.Refused.{
   SizeRefused,
   by-big,
@@ -22,13 +22,8 @@ use Rattle.division.specs.Refused.{
   by-count,
   by-room,
   by-size,
-  CheckRefused,
-  by-many,
-  by-unlike,
-  by-sizes,
 }
 use Rattle.division.proofs.Refusals as refusals
-use Rattle.division.proofs.Verdicts as verdicts
 
 module _ (pot w : ℕ) where
   too-big : (potLimit < pot) ⊎ (weightLimit < w) → sizeRefusal pot w ≡ BIG
@@ -70,11 +65,11 @@ module _ (pot w n : ℕ) where
       (lt-or-le weightLimit w))
       (lt-or-le potLimit pot)
 
-  why-size : SizeRefused pot w n → (sizeRefusal pot w ≡ n) × (n ≢ 0)
+  pub why-size : SizeRefused pot w n → (sizeRefusal pot w ≡ n) × (n ≢ 0)
   why-size (by-big e over) = (too-big pot w over ∙ sym e, λ z. omega arith)
   why-size (by-base e fits some none) = (baseless pot w fits some none ∙ sym e, λ z. omega arith)
 
-  size-within : SizeRefused pot w n → n ≤ BASE
+  pub size-within : SizeRefused pot w n → n ≤ BASE
   size-within (by-big e over) = omega arith
   size-within (by-base e fits some none) = omega arith
 
@@ -101,37 +96,3 @@ module _ (pot : ℕ) (weights : List ℕ) (room n : ℕ) where
   divide-within (by-count e many) = omega arith
   divide-within (by-room e few short) = omega arith
   divide-within (by-size few fits why) = size-within pot (total weights) n why
-
-module _ (pot : ℕ) (weights amounts : List ℕ) (n : ℕ) where
-  pub check-why : (checkRefusal pot weights amounts ≡ n) × (n ≢ 0) → CheckRefused pot weights amounts n
-  check-why p =
-      ⊎-elim
-      (λ (many : mostWeights < length weights). by-many (sym (p .0) ∙ verdicts.too-many pot weights amounts many) many)
-      (λ (few : length weights ≤ mostWeights).
-      ⊎-elim
-      (λ (t : eqb (length weights) (length amounts) ≡ true).
-      let like : length weights ≡ length amounts = eqb-true (length weights) (length amounts) t in
-      by-sizes few like (size-why pot (total weights) n (sym (verdicts.by-size pot weights amounts few (sym like)) ∙ p .0) (p .1)))
-      (λ (f : eqb (length weights) (length amounts) ≡ false).
-      let other : length weights ≢ length amounts = eqb-false (length weights) (length amounts) f in
-      by-unlike (sym (p .0) ∙ verdicts.unlike pot weights amounts few (λ e. other (sym e))) other)
-      (true-or-false (eqb (length weights) (length amounts))))
-      (lt-or-le mostWeights (length weights))
-
-  pub why-check : CheckRefused pot weights amounts n → (checkRefusal pot weights amounts ≡ n) × (n ≢ 0)
-  why-check (by-many e many) = (verdicts.too-many pot weights amounts many ∙ sym e, λ z. omega arith)
-  why-check (by-unlike e other) = (
-    ⊎-elim
-        (λ (many : mostWeights < length weights). verdicts.too-many pot weights amounts many)
-        (λ (few : length weights ≤ mostWeights). verdicts.unlike pot weights amounts few (λ q. other (sym q)))
-        (lt-or-le mostWeights (length weights))
-        ∙ sym e,
-    λ z. omega arith,
-  )
-  why-check (by-sizes few like why) =
-      let size = why-size pot (total weights) n why in (verdicts.by-size pot weights amounts few (sym like) ∙ size .0, size .1)
-
-  pub check-within : CheckRefused pot weights amounts n → n ≤ BASE
-  check-within (by-many e many) = omega arith
-  check-within (by-unlike e other) = omega arith
-  check-within (by-sizes few like why) = size-within pot (total weights) n why

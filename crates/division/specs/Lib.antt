@@ -1,5 +1,4 @@
 pub mod Limits
 pub mod Shares
-pub mod Check
 pub mod Refused
 pub mod Steps

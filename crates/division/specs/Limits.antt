@@ -1,7 +1,7 @@
 -- The limits of a division and its refusals, in the order in which they are looked for.
 -- Assumes nothing.
-use Prim.Native.Nat.{ℕ, _^_}
-use mathlib.Core.Bool.{Bool, _&&_, _||_, not}
+use Prim.Native.Nat.{ℕ}
+use mathlib.Core.Bool.{Bool, _&&_, _||_}
 use mathlib.Core.List.{List}
 use lib.Dec.{ltb, eqb}
 use lib.ListN.{length}
@@ -39,9 +39,3 @@ divideRefusal pot weights room =
     look (ltb mostWeights (length weights)) COUNT
     (look (ltb room (length weights)) ROOM
     (sizeRefusal pot (total weights)))
-
--- ".. the check at COUNT, BIG, BASE": more than 64 weights; weights and amounts differ in number
-unfoldable pub checkRefusal : ℕ → List ℕ → List ℕ → ℕ
-checkRefusal pot weights amounts =
-    look (ltb mostWeights (length weights) || not (eqb (length weights) (length amounts))) COUNT
-    (sizeRefusal pot (total weights))

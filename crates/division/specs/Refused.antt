@@ -1,7 +1,7 @@
--- What a refusal of a division or of a check says: each number stands for the first condition that holds.
+-- What a refusal of a division says: each number stands for the first condition that holds.
 -- Assumes nothing.
 use mathlib.Core.Path.{_≡_}
-use mathlib.Core.Logic.{_⊎_, _≢_}
+use mathlib.Core.Logic.{_⊎_}
 use Prim.Native.Nat.{ℕ, _≤_, _<_}
 use mathlib.Core.List.{List}
 use lib.ListN.{length}
@@ -19,10 +19,3 @@ pub data DivideRefused (pot : ℕ) (weights : List ℕ) (room n : ℕ) : Type 0 
   by-count : n ≡ COUNT → mostWeights < length weights → DivideRefused pot weights room n
   by-room : n ≡ ROOM → length weights ≤ mostWeights → room < length weights → DivideRefused pot weights room n
   by-size : length weights ≤ mostWeights → length weights ≤ room → SizeRefused pot (total weights) n → DivideRefused pot weights room n
-
--- ".. the check at COUNT, BIG, BASE"
-pub data CheckRefused (pot : ℕ) (weights amounts : List ℕ) (n : ℕ) : Type 0 where
-  by-many : n ≡ COUNT → mostWeights < length weights → CheckRefused pot weights amounts n
-  by-unlike : n ≡ COUNT → length weights ≢ length amounts → CheckRefused pot weights amounts n
-  by-sizes : length weights ≤ mostWeights → length weights ≡ length amounts → SizeRefused pot (total weights) n
-      → CheckRefused pot weights amounts n

@@ -1,12 +1,12 @@
--- What the private functions on the way to a division and to its check say of one another. A reader who wants to know what
+-- What the private functions on the way to a division say of one another. A reader who wants to know what
 -- the crate promises needs none of it.
 -- Assumes nothing.
 use mathlib.Core.Path.{_≡_}
-use Prim.Native.Nat.{ℕ, _+_, _-_, _*_, _/_, _%_, _^_, _≤_, _<_, min}
+use Prim.Native.Nat.{ℕ, _+_, _-_, _*_, _/_, _%_, _^_, _≤_, _<_}
 use mathlib.Core.List.{List}
 use mathlib.Core.Logic.{_⊎_}
 use lib.Dec.{ltb}
-use lib.ListN.{length}
+use lib.ListN.{length, set}
 use Rattle.lists.specs.Sums.{sumTo, at, bit, count}
 use Rattle.lists.specs.Entries.{put}
 use Rattle.division.specs.Limits.{mostWeights, potLimit, weightLimit}
@@ -61,6 +61,12 @@ centsOf pot weights whole i = pot * at weights i / whole
 abbrev pub keyOf : ℕ → List ℕ → ℕ → ℕ → ℕ
 keyOf pot weights whole i = pot * at weights i % whole * 64 + (63 - i)
 
+-- one position's cents and key are stored, and r cents given
+pub record Kept (cents rest i : ℕ) (out out′ keys keys′ : List ℕ) (r : ℕ) : Type 0 where
+  pub stored : out′ ≡ set out i cents
+  pub placed : keys′ ≡ set keys i (rest * 64 + (63 - i))
+  pub given : r ≡ cents
+
 -- after the weights below `from` those below `to` are done too, with r cents more
 pub record Cut (pot : ℕ) (weights : List ℕ) (whole from to : ℕ) (out out′ keys keys′ : List ℕ) (r : ℕ) : Type 0 where
   pub given : sumTo from (centsOf pot weights whole) + r ≡ sumTo to (centsOf pot weights whole)
@@ -86,16 +92,3 @@ pub record Settling (left : ℕ) (keys : List ℕ) (key low high : ℕ) : Type 0
 
 abbrev pub handed : ℕ → List ℕ → List ℕ → ℕ → ℕ
 handed left keys out i = at out i + bit (ltb (larger keys (at keys i)) left)
-
--- a number in two words of base 2^19
-abbrev pub wideValue : ℕ → ℕ → ℕ
-wideValue high low = high * 524288 + low
-
-pub record WideProduct (factor number high low : ℕ) : Type 0 where
-  pub value : wideValue high low ≡ factor * number
-  pub low-fits : low < 524288
-
--- how high an amount stands over its exact share less a cent, in parts of the sum of the weights: 0 where it stands lower,
--- and never more than two cents
-abbrev pub height : ℕ → List ℕ → ℕ → List ℕ → ℕ → ℕ
-height pot weights sum amounts i = min (sum * (at amounts i + 1) - at weights i * pot) (2 * sum)

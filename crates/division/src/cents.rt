@@ -1,13 +1,14 @@
 // The shares: whole cents first, then the cents left over one each to the largest remainders.
 use crate::quotients;
+use crate::quotients::Part;
 ghost use mathlib.Core.Path.{_≡_};
-ghost use Prim.Native.Nat.{ℕ, _*_, _/_, _%_, _^_, _≤_, _<_, _+_, _-_};
+ghost use Prim.Native.Nat.{ℕ, _*_, _/_, _^_, _≤_, _<_, _+_, _-_};
 ghost use lib.ListN.{length};
-ghost use Rattle.lists.specs.Sums.{sumTo, at, total};
+ghost use Rattle.lists.specs.Sums.{at, total};
 ghost use Rattle.lists.specs.Entries.{put};
 ghost use Rattle.division.specs.Limits.{mostWeights, weightLimit, sizeRefusal};
 ghost use Rattle.division.specs.Shares.{share};
-ghost use Rattle.division.specs.Steps.{Base, Room, Cut, CutDown, larger, Between, Settling, handed};
+ghost use Rattle.division.specs.Steps.{Base, Room, Kept, Cut, CutDown, larger, Between, Settling, handed};
 
 // Remainders that no two positions share: a remainder, then how far its position is from the last one that there can be.
 const PLACES: u64 = 64;
@@ -15,12 +16,15 @@ const PLACES: u64 = 64;
 // No key reaches 2^63.
 const TOP: u64 = 9_223_372_036_854_775_808;
 
-// A remainder with its place.
-fn key(rest: u64, i: usize) -> u64
-    requires { ⌜ (rest ≤ weightLimit) × (i < mostWeights) ⌝ }
-    ensures { λ r. ⌜ r ≡ rest * 64 + (63 - i) ⌝ }
+// Keeps one position's whole cents in `out` and its remainder with its place in `keys`, and gives the cents back.
+fn keep(part: Part, i: usize, out: &mut [u64], keys: &mut [u64]) -> u64
+    requires { ⌜ (part .rest ≤ weightLimit) × (i < mostWeights) ⌝ }
+    requires { ⌜ (i < length (now out)) × (i < length (now keys)) ⌝ }
+    ensures { λ r. ⌜ Kept (part .cents) (part .rest) i (now (out .entry)) (now (out .exit)) (now (keys .entry)) (now (keys .exit)) r ⌝ }
 {
-    rest * PLACES + (PLACES - 1 - i as u64)
+    out[i] = part.cents;
+    keys[i] = part.rest * PLACES + (PLACES - 1 - i as u64);
+    part.cents
 }
 
 // Cuts one weight's share down to whole cents, and gives these back.
@@ -38,11 +42,10 @@ fn cut_one(
     ensures { λ r. ⌜ Cut pot (now (weights .entry)) whole i (i + 1) (now (out .entry)) (now (out .exit)) (now (keys .entry)) (now (keys .exit)) r ⌝ }
 {
     let part = quotients::quotient(pot, weights[i], whole);
-    out[i] = part.cents;
-    keys[i] = key(part.rest, i);
-    part.cents
+    keep(part, i, out, keys)
 }
 
+// The same for four weights at once.
 fn cut_four(
     pot: u64,
     weights: &[u64],
@@ -64,19 +67,11 @@ fn cut_four(
         weights[i + 3],
         whole,
     );
-    let first = parts.first;
-    let second = parts.second;
-    let third = parts.third;
-    let fourth = parts.fourth;
-    out[i] = first.cents;
-    out[i + 1] = second.cents;
-    out[i + 2] = third.cents;
-    out[i + 3] = fourth.cents;
-    keys[i] = key(first.rest, i);
-    keys[i + 1] = key(second.rest, i + 1);
-    keys[i + 2] = key(third.rest, i + 2);
-    keys[i + 3] = key(fourth.rest, i + 3);
-    first.cents + second.cents + third.cents + fourth.cents
+    let first = keep(parts.first, i, out, keys);
+    let second = keep(parts.second, i + 1, out, keys);
+    let third = keep(parts.third, i + 2, out, keys);
+    let fourth = keep(parts.fourth, i + 3, out, keys);
+    first + second + third + fourth
 }
 
 // Four weights at a time, as long as there are four.

@@ -1,6 +1,6 @@
-// Dividing a pot by weights (`divide`), and judging a division that anyone hands in (`check`). Every share is first cut down
-// to whole cents, and the cents left over go one each to the largest fractions cut off, lower position first. `specs/` says
-// what is right, `proofs/Promises.antt` what follows from it, and `proofs/Laws.antt` what the crates above may cite.
+// Dividing a pot by weights. Every share is first cut down to whole cents, and the cents left over go one each to the largest
+// fractions cut off, lower position first. `specs/` says what is right, `proofs/Promises.antt` what follows from it, and
+// `proofs/Laws.antt` what the crates above may cite.
 use answer::ACCEPTED;
 use answer::Answer;
 use answer::COUNT;
@@ -8,23 +8,14 @@ use answer::HEAD;
 use answer::ROOM;
 ghost use mathlib.Core.Path.{_≡_};
 ghost use Rattle.division.specs.Shares.{Divided};
-ghost use Rattle.division.specs.Check.{verdict};
 
 mod cents;
-mod limits;
+pub mod limits;
 mod quotients;
-mod spread;
 
 // What `divide` answers.
 pub struct Division {
     pub answer: Answer,
-}
-
-// What `check` says of a list of amounts: it is a closest division, it is not, or the refusal's number.
-pub enum Verdict {
-    Yes,
-    No,
-    Refused(u64),
 }
 
 fn answered(number: u64) -> Division
@@ -52,38 +43,11 @@ pub fn divide(pot: u64, weights: &[u64], out: &mut [u64]) -> Division
     if out.len() < count {
         return answered(ROOM);
     }
-    let sum = limits::sum_capped(weights, limits::WEIGHT_LIMIT + 1);
+    let sum = lists::sum_capped(weights, limits::WEIGHT_LIMIT + 1);
     let number = limits::size_refusal(pot, sum);
     if number != ACCEPTED {
         return answered(number);
     }
     cents::share_out(pot, weights, sum, out);
     answered(ACCEPTED)
-}
-
-// Says whether the amounts are a closest division of the pot by the weights. Refuses with COUNT (more than 64 weights, or not
-// as many amounts as weights), BIG and BASE, in this order. Amounts may be of any size.
-pub fn check(pot: u64, weights: &[u64], amounts: &[u64]) -> Verdict
-    ensures { λ r. ⌜ r ≡ verdict pot (now (weights .entry)) (now (amounts .entry)) ⌝ }
-{
-    let count = weights.len();
-    if limits::MOST_WEIGHTS < count {
-        return Verdict::Refused(COUNT);
-    }
-    if amounts.len() != count {
-        return Verdict::Refused(COUNT);
-    }
-    let sum = limits::sum_capped(weights, limits::WEIGHT_LIMIT + 1);
-    let refusal = limits::size_refusal(pot, sum);
-    if refusal != ACCEPTED {
-        return Verdict::Refused(refusal);
-    }
-    let handed_out = limits::sum_capped(amounts, limits::POT_LIMIT + 1);
-    if handed_out != pot {
-        return Verdict::No;
-    }
-    if spread::is_level(pot, weights, sum, amounts) {
-        return Verdict::Yes;
-    }
-    Verdict::No
 }

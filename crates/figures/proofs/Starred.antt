@@ -4,9 +4,9 @@ use mathlib.Core.Path.{refl}
 use Rattle.lists.specs.Sums.{sumTo, every, largestFirst}
 use Rattle.lists.specs.Entries.{listed}
 use Rattle.closeness.specs.Closeness.{level}
-use Rattle.division.specs.Limits.{sizeRefusal, divideRefusal, checkRefusal}
+use Rattle.division.specs.Limits.{sizeRefusal, divideRefusal}
 use Rattle.division.specs.Shares.{quotient, remainder, leftover, comesBefore, getsCent, share, shares}
-use Rattle.division.specs.Check.{passes, verdict}
+use Rattle.verdict.specs.Check.{checkRefusal, passes, verdict}
 use Rattle.month.specs.Quantities.{nearest, networkCharge}
 use Rattle.month.specs.Months.{through, twelfth}
 use Rattle.figures.specs.Starred.{Starred}

@@ -5,8 +5,8 @@ use mathlib.Core.List.{[], _∷_}
 use Rattle.answer.specs.Numbers.{BASE}
 use Rattle.division.specs.Limits.{divideRefusal}
 use Rattle.division.specs.Shares.{shares}
-use Rattle.division.specs.Check.{verdict}
-use Rattle.division.specs.declared.Verdict.the-variants.{Yes, No}
+use Rattle.verdict.specs.Check.{verdict}
+use Rattle.verdict.specs.declared.Verdict.the-variants.{Yes, No}
 use Rattle.month.specs.Quantities.{networkCharge}
 use Rattle.month.specs.Months.{twelfth}
 use Rattle.text.specs.Bytes.{bytes}

@@ -4,7 +4,7 @@ use crate::print::answer_name;
 use crate::print::list;
 use crate::print::pot_by_weights;
 use crate::print::text;
-use division::Verdict;
+use verdict::Verdict;
 
 fn verdict_name(verdict: Verdict) {
     match verdict {
@@ -18,7 +18,7 @@ fn check(name: &[u8], pot: u64, weights: &[u64], amounts: &[u64]) {
     pot_by_weights(name, pot, weights);
     list(b" with ", amounts);
     text(b": ");
-    verdict_name(division::check(pot, weights, amounts));
+    verdict_name(verdict::check(pot, weights, amounts));
     text(b"\n");
 }
 

@@ -15,11 +15,12 @@ use Rattle.lists.proofs.Sums.{neither}
 use Rattle.lists.specs.Entries.{put}
 use Rattle.division.specs.Limits.{mostWeights, divideRefusal}
 use Rattle.division.specs.Shares.{shares, Divided}
-use Rattle.division.specs.Check.{verdict, numberOf, valueOf}
+use Rattle.verdict.specs.Check.{verdict, numberOf, valueOf}
 use Rattle.division.specs.declared.Division.{Division}
-use Rattle.division.specs.declared.Verdict.{Verdict}
-use Rattle.division.specs.declared.Verdict.the-variants.{Refused}
+use Rattle.verdict.specs.declared.Verdict.{Verdict}
+use Rattle.verdict.specs.declared.Verdict.the-variants.{Refused}
 use Rattle.division.proofs.Laws as laws
+use Rattle.verdict.proofs.Laws as verdicts
 use Rattle.host.specs.Words.{isUneven, numbers, bytes}
 use Rattle.host.specs.Stores.{byteAt, WholeWords}
 use Rattle.host.specs.Calls.{word, hostDivideRefusal, hostMemory, HostDivided, hostVerdict}
@@ -77,12 +78,12 @@ module _ (pot : ℕ) (weights amounts : List ℕ) where
       ∙ sym (ap (λ t. cond t 1 (word (numberOf (verdict pot (numbers weights) (numbers amounts))) (valueOf (verdict pot (numbers weights) (numbers amounts))))) (even weights amounts w))
 
   pub check-many : WholeWords weights amounts → mostWeights < length weights / 8 → 1 ≡ hostVerdict pot weights amounts
-  check-many w h = said w (Refused 1) (sym (laws.check-many-weights pot (numbers weights) (numbers amounts) (rw length-numbers h)))
+  check-many w h = said w (Refused 1) (sym (verdicts.check-many-weights pot (numbers weights) (numbers amounts) (rw length-numbers h)))
 
   pub check-unlike : WholeWords weights amounts → length weights / 8 ≤ mostWeights → length amounts ≢ length weights → 1 ≡ hostVerdict pot weights amounts
   check-unlike w few d =
       said w (Refused 1)
-      (sym (laws.check-unlike pot (numbers weights) (numbers amounts) (rw length-numbers few)
+      (sym (verdicts.check-unlike pot (numbers weights) (numbers amounts) (rw length-numbers few)
       (λ e. d (let words : length amounts / 8 ≡ length weights / 8 = sym (length-numbers amounts) ∙ e ∙ length-numbers weights in
       omega (arith, w .these-whole, w .those-whole)))))
 

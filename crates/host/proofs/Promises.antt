@@ -11,7 +11,7 @@ use Rattle.lists.specs.Sums.{at}
 use Rattle.answer.specs.Numbers.{COUNT, ROOM}
 use Rattle.division.specs.Limits.{divideRefusal}
 use Rattle.division.specs.Shares.{shares}
-use Rattle.division.specs.Check.{verdict, numberOf, valueOf}
+use Rattle.verdict.specs.Check.{verdict, numberOf, valueOf}
 use Rattle.statement_text.proofs.Promises.{statement-is-short}
 use Rattle.host.specs.Words.{numbers, bytes}
 use Rattle.statement_text.specs.Statement.{statementOf}

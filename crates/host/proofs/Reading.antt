@@ -15,8 +15,9 @@ use Rattle.lists.proofs.Entries.{length-listed}
 use Rattle.answer.proofs.Turns.{look-none, zero-or-not}
 use Rattle.division.specs.Limits.{divideRefusal}
 use Rattle.division.specs.Shares.{shares}
-use Rattle.division.specs.Check.{verdict, numberOf, valueOf}
+use Rattle.verdict.specs.Check.{verdict, numberOf, valueOf}
 use Rattle.division.proofs.Laws as laws
+use Rattle.verdict.proofs.Laws as verdicts
 use Rattle.host.specs.Words.{isUneven, numbers, bytes}
 use Rattle.host.specs.Stores.{byteAt, WholeWords}
 use Rattle.host.specs.Calls.{word, hostDivideRefusal, hostMemory, hostVerdict}
@@ -51,7 +52,7 @@ module _ (pot : ℕ) (weights amounts : List ℕ) where
       × (hostVerdict pot weights amounts / 256 ≡ valueOf (verdict pot (numbers weights) (numbers amounts)))
   said-in-parts w =
       let said = verdict pot (numbers weights) (numbers amounts) in
-      let small : numberOf said < 256 = omega (arith, laws.check-number pot (numbers weights) (numbers amounts)) in
+      let small : numberOf said < 256 = omega (arith, verdicts.check-number pot (numbers weights) (numbers amounts)) in
       subst (λ r. (r % 256 ≡ numberOf said) × (r / 256 ≡ valueOf said)) (calls.said pot weights amounts w said refl)
       (answer-in-parts (numberOf said) (valueOf said) small)
 

@@ -3,7 +3,7 @@
 // in the bits above. A refusal writes no byte. The calls keep nothing between them.
 use answer::ACCEPTED;
 use answer::COUNT;
-use division::Verdict;
+use verdict::Verdict;
 ghost use mathlib.Core.Path.{_≡_};
 ghost use Prim.Native.Nat.{_/_, _≤_};
 ghost use lib.ListN.{length};
@@ -62,7 +62,7 @@ fn check_words(
     let count = weights.len() / words::WORD;
     words::load(weights, numbers);
     words::load(amounts, handed);
-    let verdict = division::check(pot, &numbers[..count], &handed[..count]);
+    let verdict = verdict::check(pot, &numbers[..count], &handed[..count]);
     match verdict {
         Verdict::Yes => YES,
         Verdict::No => NO,

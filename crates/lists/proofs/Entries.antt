@@ -8,7 +8,7 @@ use native.Mathlib.Nat.{le-of-suc-le, le-step, not-suc-le-zero, lt-suc-self}
 use native.Mathlib.Numerals.{add-one}
 use native.Mathlib.Omega.{arith}
 use lib.ListN.{length, set, take, drop, length-set, length-append, List·getD-append}
-use lib.Seq.{drop-cons, set-at, getD-at, ext-getD, getD-set-other, take-at, drop-at}
+use lib.Seq.{length-take-le, getD-take, drop-cons, set-at, getD-at, ext-getD, getD-set-other, take-at, drop-at}
 use Rattle.lists.specs.Sums.{sumTo, at, total}
 use Rattle.lists.specs.Entries.{listed, put}
 use Rattle.lists.proofs.Sums.{last-or-below, sum-eq}
@@ -31,6 +31,10 @@ at-listed (suc n) f i h =
 
 pub total-listed : (n : ℕ) (f : ℕ → ℕ) → total (listed n f) ≡ sumTo n f
 total-listed n f = rw length-listed (sum-eq n (at (listed n f)) f (at-listed n f))
+
+-- the first entries of a list add up to the sum over their positions
+pub total-take : (n : ℕ) (l : List ℕ) → n ≤ length l → total (take n l) ≡ sumTo n (at l)
+total-take n l h = rw length-take-le (sum-eq n (at (take n l)) (at l) (λ i b. getD-take n l i 0 b))
 
 -- a list is its entries, listed
 pub listed-at : (l : List ℕ) → listed (length l) (at l) ≡ l

@@ -4,7 +4,7 @@ use mathlib.Core.Path.{_≡_, refl, sym, ap, ap₂, _∙_, subst}
 use mathlib.Core.Logic.{_⊎_, inl, inr, ⊎-elim, _≢_}
 use mathlib.Core.Bool.{Bool, true, false, true≢false, _&&_, _||_, and-eq-true-iff}
 use Prim.Native.Nat.{ℕ, zero, suc, _+_, _*_, _≤_, _<_}
-use native.Mathlib.Nat.{eq-or-lt-of-le, le-of-suc-le-suc, not-suc-le-zero, mul-add, mul-zero, le-step, lt-suc-self, zero-mul, suc-mul, le-refl, le-of-eq, ne-of-lt, ne-of-gt}
+use native.Mathlib.Nat.{add-comm, add-assoc, eq-or-lt-of-le, le-of-suc-le-suc, not-suc-le-zero, mul-add, mul-zero, le-step, lt-suc-self, zero-mul, suc-mul, le-refl, le-of-eq, ne-of-lt, ne-of-gt}
 use native.Mathlib.Numerals.{add-one}
 use native.Mathlib.Omega.{arith}
 use Rattle.lists.specs.Sums.{sumTo, bit, when, count, every}
@@ -60,6 +60,12 @@ le-sum (suc n) f i h =
     (λ (e : i ≡ n). let q : f i ≡ f n = ap f e in omega arith)
     (λ (b : i < n). omega (arith, le-sum n f i b))
     (last-or-below n i h)
+
+-- the first position taken off a sum
+pub sum-first : (n : ℕ) (f : ℕ → ℕ) → sumTo (suc n) f ≡ f 0 + sumTo n (λ i. f (suc i))
+unfolding sumTo
+sum-first zero f = add-comm 0 (f 0)
+sum-first (suc n) f = ap (λ s. s + f (suc n)) (sum-first n f) ∙ add-assoc (f 0) (sumTo n (λ i. f (suc i))) (f (suc n))
 
 -- a sum over fewer positions is at most one over more
 pub sum-within : (f : ℕ → ℕ) (m n : ℕ) → m ≤ n → sumTo m f ≤ sumTo n f

@@ -3,11 +3,12 @@
 use mathlib.Core.Path.{_≡_, refl, sym, ap, ap₂, _∙_}
 use mathlib.Core.Logic.{_≢_}
 use mathlib.Core.List.{List, [], _∷_}
-use Prim.Native.Nat.{ℕ, zero, suc, _^_, _<_}
-use native.Mathlib.Nat.{lt-of-le-of-lt}
+use Prim.Native.Nat.{ℕ, zero, suc, _-_, _^_, _<_, min}
+use native.Mathlib.Nat.{lt-of-le-of-lt, min-eq-left}
+use native.Mathlib.Omega.{arith}
 use lib.Dec.{lit<}
 use lib.ListN.{length, drop}
-use Rattle.lists.specs.Sums.{at}
+use Rattle.lists.specs.Sums.{at, total}
 use Rattle.answer.specs.declared.Answer.{Answer}
 use Rattle.answer.specs.Turns.{accepted}
 use Rattle.monthfile.specs.declared.Reading.{Reading}
@@ -16,9 +17,9 @@ use Rattle.monthfile.specs.Form.{Kind, monthForm}
 use Rattle.monthfile.specs.Reading.{got, refused, Rows, heads, tables, rowsIn, ending, reading}
 use Rattle.monthfile.specs.Writing.{AllFit}
 use Rattle.monthfile.specs.Calls.{nth, readAnswer}
-use Rattle.monthfile.specs.Walks.{Walked, Ended, JudgedAs, countsOf, readingOf, addedUp}
+use Rattle.monthfile.specs.Walks.{Walked, Ended, JudgedAs, countsOf, readingOf}
 use Rattle.monthfile.proofs.Forms.{heads-back, HeadsBack, tables-back, TablesBack, rows-in-most, mostRows}
-use Rattle.monthfile.proofs.LineWalks.{itself, added-counts, stored-all, reading-heads, reading-tables, reading-on}
+use Rattle.monthfile.proofs.LineWalks.{itself, total-counts, stored-all, reading-heads, reading-tables, reading-on}
 
 -- counts by their place
 pub at-counts : (ts : List Rows) (k : ℕ) → at (countsOf ts) k ≡ nth ts k .count
@@ -86,24 +87,26 @@ module _ (s lent : List ℕ) (w : Walk) (head : List ℕ) (first : Walked s (hea
       pub counts-are : counts ≡ countsOf ts
       counts-are = second .went-on y .2 ∙ stored-all lent′ (countsOf ts) (length-fit (monthForm .kinds) ts (back .fit) ∙ sym room)
 
-      pub counts-small : addedUp counts < 2 ^ 64
-      counts-small = rw (counts-are, added-counts ts) (month-rows ts (back .fit))
+      rows-are : total counts ≡ rowsIn ts
+      rows-are = ap total counts-are ∙ total-counts ts
 
       whole : reading monthForm s ≡ ending (length s) (monthForm .last) (record { head = ns; tables = ts }) (drop (v .at) s)
       whole = reading-on monthForm s ns (drop (w .at) s) ts (drop (v .at) s) (first .went-on z .1) (second .went-on y .1)
 
-      module _ (total : ℕ) (added : total ≡ addedUp counts) (a : Answer) (third : Ended (monthForm .last) s (drop (v .at) s) total a) where
-        rows-are : rowsIn ts ≡ total
-        rows-are = sym (added ∙ ap addedUp counts-are ∙ added-counts ts)
+      module _ (rows : ℕ) (added : rows ≡ min (total counts) (2 ^ 64 - 1)) (a : Answer) (third : Ended (monthForm .last) s (drop (v .at) s) rows a) where
+        all-rows : rowsIn ts ≡ rows
+        all-rows =
+            let few : rowsIn ts < 2 ^ 64 = month-rows ts (back .fit) in
+            sym (added ∙ ap (λ n. min n (2 ^ 64 - 1)) rows-are ∙ min-eq-left (omega arith))
 
         pub judged-end : a .number ≢ 0 → (held : Reading) (body : ℕ) → held ≡ readAnswer (refused a) → JudgedAs s held body
         judged-end d held body q =
-            refused-as s a held body (whole ∙ third .stopped d (record { head = ns; tables = ts }) rows-are) d q
+            refused-as s a held body (whole ∙ third .stopped d (record { head = ns; tables = ts }) all-rows) d q
 
         pub judged-fine : a .number ≡ 0 → length lent ≡ 3 → (held : Reading) → held ≡ readingOf head counts → JudgedAs s held (w .at)
         judged-fine x three held q =
             let all : reading monthForm s ≡ got (record { head = ns; tables = ts }) [] =
-            whole ∙ third .went-on x (record { head = ns; tables = ts }) rows-are in
+            whole ∙ third .went-on x (record { head = ns; tables = ts }) all-rows in
             let hb : HeadsBack (monthForm .heads) s ns (drop (w .at) s) = heads-back (length s) (monthForm .heads) s ns (drop (w .at) s) (first .went-on z .1) in
             let head-is : head ≡ ns = first .went-on z .2 ∙ stored-all lent ns (hb .one-each ∙ sym three) in
             record {

@@ -8,7 +8,8 @@ use native.Mathlib.Nat.{zero-add}
 use native.Mathlib.Omega.{arith}
 use lib.ListN.{length, drop, set, length-drop, length-append}
 use lib.Seq.{drop-length}
-use Rattle.lists.specs.Sums.{at}
+use Rattle.lists.specs.Sums.{at, total}
+use Rattle.lists.proofs.Sums.{sum-none, sum-first}
 use Rattle.answer.specs.declared.Answer.{Answer}
 use Rattle.answer.specs.Numbers as numbers
 use Rattle.answer.specs.Turns.{accepted, refuse}
@@ -26,7 +27,7 @@ use Rattle.monthfile.specs.declared.row.Counted.{Counted}
 use Rattle.monthfile.specs.declared.judge.Walk.{Walk}
 use Rattle.monthfile.specs.Form.{Kind, Form, kindOf, monthForm, tableAt, headAt}
 use Rattle.monthfile.specs.Reading.{Outcome, got, refused, onward, unfit, Rows, heads, tables, Contents, rowsIn, closed, ending, reading}
-use Rattle.monthfile.specs.Walks.{CountedAt, OneTaken, Walked, Ended, countsOf, addedUp}
+use Rattle.monthfile.specs.Walks.{CountedAt, OneTaken, Walked, Ended, countsOf}
 use Rattle.monthfile.proofs.Forms.{heads-none, heads-on, heads-stop, tables-none, tables-on, tables-over, readOf, tableOf, ending-stop, ending-other, ending-on}
 
 -- a refusal's offset is how much has been read
@@ -171,10 +172,10 @@ pub counts-more : (x y : List Rows) → countsOf (x ++ y) ≡ countsOf x ++ coun
 counts-more [] y = refl
 counts-more (t ∷ x) y = ap (λ l. t .count ∷ l) (counts-more x y)
 
-pub added-counts : (ts : List Rows) → addedUp (countsOf ts) ≡ rowsIn ts
-unfolding addedUp rowsIn
-added-counts [] = refl
-added-counts (t ∷ ts) = ap (λ n. t .count + n) (added-counts ts)
+pub total-counts : (ts : List Rows) → total (countsOf ts) ≡ rowsIn ts
+unfolding rowsIn
+total-counts [] = sum-none (at [])
+total-counts (t ∷ ts) = sum-first (length (countsOf ts)) (at (countsOf (t ∷ ts))) ∙ ap (λ n. t .count + n) (total-counts ts)
 
 module _ (s : List ℕ) (o : Outcome (List Rows)) (lent current : List ℕ) (i k : ℕ)
     (w : Walking o (tables (drop k (monthForm .kinds)) (drop i s)) countsOf lent current k) (h : i ≤ length s) where
@@ -279,15 +280,6 @@ module _ (form : Form) (s : List ℕ) where
       → reading form s ≡ ending (length s) (form .last) (record { head = ns; tables = ts }) u
   unfolding reading
   reading-on ns t ts u e q = rw (e, q)
-
--- numbers added up one after the other
-pub added-next : (l : List ℕ) (k : ℕ) → k < length l → addedUp (drop k l) ≡ at l k + addedUp (drop (k + 1) l)
-unfolding addedUp
-added-next l k h = ap addedUp (drop-next l k h)
-
-pub added-end : (l : List ℕ) (k : ℕ) → length l ≤ k → addedUp (drop k l) ≡ 0
-unfolding addedUp
-added-end l k h = ap addedUp (drop-end l k h)
 
 -- the last arms of the two tables by place
 pub reservations-at : (k : ℕ) → k ≢ 0 → k ≢ 1 → k ≢ 2 → k ≢ 3 → k ≢ 4 → Reservations ≡ tableAt k

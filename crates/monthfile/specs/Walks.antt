@@ -3,7 +3,7 @@
 use mathlib.Core.Path.{_≡_}
 use mathlib.Core.Logic.{_≢_}
 use mathlib.Core.List.{List, [], _∷_}
-use Prim.Native.Nat.{ℕ, _+_, _*_, _≤_}
+use Prim.Native.Nat.{ℕ, _*_, _≤_}
 use lib.ListN.{length, drop}
 use Rattle.lists.specs.Sums.{at}
 use Rattle.answer.specs.declared.Answer.{Answer}
@@ -48,11 +48,6 @@ pub record OneTaken (s : List ℕ) (o : Found (List ℕ)) (lent : List ℕ) (pla
 abbrev pub countsOf : List Rows → List ℕ
 countsOf [] = []
 countsOf (t ∷ ts) = t .count ∷ countsOf ts
-
--- numbers added up
-unfoldable pub addedUp : List ℕ → ℕ
-addedUp [] = 0
-addedUp (n ∷ ns) = n + addedUp ns
 
 -- the last line and what stands behind it, for contents with so many rows
 pub record Ended (key s rest : List ℕ) (rows : ℕ) (a : Answer) : Type 0 where

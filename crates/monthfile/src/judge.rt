@@ -1,15 +1,15 @@
 // The first walk over a text: every line is judged, the rows are counted, and the numbers of the first lines taken.
 ghost use mathlib.Core.Path.{_≡_};
-ghost use Prim.Native.Nat.{suc, _^_, _≤_, _<_};
+ghost use Prim.Native.Nat.{suc, _≤_, _<_};
 ghost use lib.ListN.{length, drop};
 ghost use Rattle.answer.specs.Numbers as numbers;
 ghost use Rattle.answer.specs.Turns.{accepted, refuse};
 ghost use Rattle.tables.specs.Shape.{number, width, limit};
 ghost use Rattle.text.specs.Lines.{line};
 ghost use Rattle.monthfile.specs.Form.{key, monthForm, tableAt, headAt};
-ghost use Rattle.monthfile.specs.Reading.{refused, rows, heads, tables, reading};
+ghost use Rattle.monthfile.specs.Reading.{refused, rows, heads, tables};
 ghost use Rattle.monthfile.specs.Calls.{readAnswer};
-ghost use Rattle.monthfile.specs.Walks.{CountedAt, OneTaken, Walked, Ended, JudgedAs, countsOf, readingOf, addedUp};
+ghost use Rattle.monthfile.specs.Walks.{CountedAt, OneTaken, Walked, Ended, JudgedAs, countsOf, readingOf};
 use crate::Reading;
 use crate::keys;
 use crate::row;
@@ -259,20 +259,6 @@ fn found(head: &[u64], counts: &[u64]) -> Reading
     }
 }
 
-// How many rows there are in all.
-fn total_of(counts: &[u64]) -> u64
-    requires { ⌜ addedUp (now counts) < 2 ^ 64 ⌝ }
-    ensures { λ r. ⌜ r ≡ addedUp (now (counts .entry)) ⌝ }
-{
-    let mut sum = 0;
-    let mut k = 0;
-    while k < counts.len() {
-        sum += counts[k];
-        k += 1;
-    }
-    sum
-}
-
 // Judges a whole text.
 pub fn judge_text(text: &[u8]) -> Judged
     ensures { λ r. ⌜ JudgedAs (now (text .entry)) (r .held) (r .body) ⌝ }
@@ -291,7 +277,7 @@ pub fn judge_text(text: &[u8]) -> Judged
     if second.number != answer::ACCEPTED {
         return stopped(second);
     }
-    let end = judge_end(text, last, total_of(&counts));
+    let end = judge_end(text, last, lists::sum_capped(&counts, u64::MAX));
     if end.number != answer::ACCEPTED {
         return stopped(end);
     }

@@ -10,7 +10,7 @@ ghost use mathlib.Core.Path.{_≡_};
 ghost use mathlib.Core.List.{[], _∷_};
 ghost use Prim.Native.Nat.{_+_, _*_, _≤_, _<_, _^_};
 ghost use lib.ListN.{length};
-ghost use Rattle.lists.specs.Sums.{at, total};
+ghost use Rattle.lists.specs.Sums.{at};
 ghost use Rattle.groups.specs.Groups.{among};
 ghost use Rattle.groups.specs.Columns.{Addable};
 ghost use Rattle.groups.specs.Steps.{Summed};
@@ -29,20 +29,6 @@ struct Sides {
 struct ZoneCharged {
     answer: Answer,
     nonzone: u64,
-}
-
-// All zone use, or all non-zone use: the parts added up.
-fn sum(numbers: &[u64]) -> u64
-    requires { ⌜ total (now numbers) < 2 ^ 64 ⌝ }
-    ensures { λ r. ⌜ r ≡ total (now (numbers .entry)) ⌝ }
-{
-    let mut sum = 0;
-    let mut i = 0;
-    while i < numbers.len() {
-        sum += numbers[i];
-        i += 1;
-    }
-    sum
 }
 
 // A pot in two by two uses, zone side first.
@@ -106,8 +92,8 @@ fn charge_zones(
     requires { ⌜ place + 2 * length (now numbers) < 2 ^ 64 ⌝ }
     ensures { λ r. ⌜ AllZones (serviceOf (now (pots .entry)) (now (numbers .entry)) (now (zoneparts .entry)) (now (nonzoneparts .entry)) (now (zones .entry))) place (now (column .exit)) r ⌝ }
 {
-    let zone = sum(zoneparts);
-    let nonzone = sum(nonzoneparts);
+    let zone = lists::sum_capped(zoneparts, u64::MAX);
+    let nonzone = lists::sum_capped(nonzoneparts, u64::MAX);
     let mut sides = 0;
     let mut z = 0;
     while z < numbers.len() {

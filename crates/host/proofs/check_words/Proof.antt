@@ -5,8 +5,8 @@ use Prim.Native.Nat.{_/_, _+_, _*_}
 use native.Mathlib.Omega.{arith}
 use lib.ListN.{length, take}
 use borrow.Author.Needs.{needs}
-use Rattle.division.specs.Check.{verdict}
-use Rattle.division.specs.declared.Verdict.the-variants.{Yes, No, Refused}
+use Rattle.verdict.specs.Check.{verdict}
+use Rattle.verdict.specs.declared.Verdict.the-variants.{Yes, No, Refused}
 use Rattle.host.specs.Words.{numbers}
 use Rattle.lists.specs.Entries.{put}
 use Rattle.host.specs.Stores.{numberAt}

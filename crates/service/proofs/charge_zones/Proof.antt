@@ -2,6 +2,7 @@
 -- Assumes nothing.
 use mathlib.Core.Path.{_≡_, refl, ap, _∙_}
 use Prim.Native.Nat.{_≤_, _-_}
+use native.Mathlib.Nat.{min-eq-left, le-of-suc-le-suc}
 use native.Mathlib.Omega.{arith}
 use lib.ListN.{length}
 use mathlib.Core.List.{[], _∷_}
@@ -50,11 +51,11 @@ unfolding weightsIn
 one-zone c =
     zone-by-uses (lent (start-of c)) _ _ _ _ _ _ (c .before .before .before .before .before .loop .inv .3) (c .charge-zone .ensures)
 
-sum-requires : tie.Need-sum-requires Inv-loop μ-loop
-sum-requires c κs = search needs
+sum-capped-requires : tie.Need-sum-capped-requires Inv-loop μ-loop
+sum-capped-requires c κs = search needs
 
-sum-requires-2 : tie.Need-sum-requires-2 Inv-loop μ-loop
-sum-requires-2 c κs = search needs
+sum-capped-requires-2 : tie.Need-sum-capped-requires-2 Inv-loop μ-loop
+sum-capped-requires-2 c κs = search needs
 
 loop-holds : tie.Need-loop-holds Inv-loop μ-loop
 unfolding zoneUse nonzoneUse
@@ -63,8 +64,10 @@ loop-holds c =
       omega arith,
       refl,
       charged-none (lent start) _ (start .pre .1 .0),
-      uses-are (lent start) _ _ (c .before .sum .ensures)
-          (c .sum2 .ensures ∙ ap (λ n. sumTo n (at (start .args .nonzoneparts .now))) (start .pre .0 .both-parts)),
+      uses-are (lent start) _ _ (c .before .sum-capped .ensures ∙ min-eq-left (le-of-suc-le-suc (start .pre .0 .zone-use)))
+          (c .sum-capped2 .ensures
+          ∙ min-eq-left (le-of-suc-le-suc (start .pre .0 .nonzone-use))
+          ∙ ap (λ n. sumTo n (at (start .args .nonzoneparts .now))) (start .pre .0 .both-parts)),
     )
 
 mul-charge-zone : tie.Need-mul-charge-zone Inv-loop μ-loop
@@ -141,8 +144,8 @@ charge-zones-spec =
     (tie.spec
     Inv-loop
     μ-loop
-    sum-requires
-    sum-requires-2
+    sum-capped-requires
+    sum-capped-requires-2
     loop-holds
     mul-charge-zone
     shared-slice-read-charge-zone

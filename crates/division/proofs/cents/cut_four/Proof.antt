@@ -1,41 +1,27 @@
 -- `division::cents::cut_four` meets its contract: the four are cut down as one after the other would be.
 -- Assumes nothing.
+use mathlib.Core.Path.{refl}
 use Prim.Native.Nat.{ℕ, _≤_, _<_, _+_}
 use native.Mathlib.Omega.{arith}
-use lib.ListN.{length, length-set}
+use mir.Val.{Fits}
+use mir.Syntax.{w64}
+use lib.ListN.{length}
 use borrow.Author.Needs.{needs}
-use Rattle.lists.specs.Sums.{at}
-use Rattle.division.specs.Limits.{potLimit, weightLimit}
+use Rattle.division.specs.Limits.{potLimit}
 use Rattle.division.proofs.Bounds.{weight-fits}
-use Rattle.division.proofs.Cutting.{cut-next-four, part-fits}
+use Rattle.division.proofs.Cutting.{cut-next, cut-on, room-on, may-keep, cents-small}
 use Rattle.division.proofs.cents.cut_four.Statement.{statement}
 use Rattle.division.proofs.cents.cut_four.Tie as tie
 
-weight : (c : tie.Start) (k : ℕ) → k < length (c .args .weights .now) → at (c .args .weights .now) k ≤ c .args .whole
-weight c k h = weight-fits (c .args .pot) (c .args .weights .now) (c .args .whole) (c .pre .0) k h
+four-fit : {a b c d : ℕ} → a ≤ potLimit → b ≤ potLimit → c ≤ potLimit → d ≤ potLimit
+    → Fits w64 (a + b) × Fits w64 (a + b + c) × Fits w64 (a + b + c + d)
+four-fit p q r s = (omega arith, omega arith, omega arith)
 
-few : (c : tie.After-quotients) (k : ℕ) → k ≤ c .before .before .before .before .before .before .before .before .args .i + 3 → k < 64
-few c k h = omega (arith, c .before .before .before .before .before .before .before .before .pre .1 .0 .few, c .before .before .before .before .before .before .before .before .pre .1 .1)
+within : (start : tie.Start) → (start .args .i < length (start .args .weights .now)) × (start .args .i + 1 < length (start .args .weights .now)) × (start .args .i + 2 < length (start .args .weights .now)) × (start .args .i + 3 < length (start .args .weights .now))
+within start = (search needs, search needs, search needs, start .pre .1 .1)
 
-fits-first : (c : tie.After-quotients) → (c .quotients .result .first .cents ≤ potLimit) × (c .quotients .result .first .rest ≤ weightLimit)
-fits-first c =
-    let start = c .before .before .before .before .before .before .before .before in
-    part-fits (start .args .pot) (start .args .weights .now) (start .args .whole) (start .pre .0) (start .args .i) _ _ (search needs) (c .quotients .ensures .at-first)
-
-fits-second : (c : tie.After-quotients) → (c .quotients .result .second .cents ≤ potLimit) × (c .quotients .result .second .rest ≤ weightLimit)
-fits-second c =
-    let start = c .before .before .before .before .before .before .before .before in
-    part-fits (start .args .pot) (start .args .weights .now) (start .args .whole) (start .pre .0) (start .args .i + 1) _ _ (search needs) (c .quotients .ensures .at-second)
-
-fits-third : (c : tie.After-quotients) → (c .quotients .result .third .cents ≤ potLimit) × (c .quotients .result .third .rest ≤ weightLimit)
-fits-third c =
-    let start = c .before .before .before .before .before .before .before .before in
-    part-fits (start .args .pot) (start .args .weights .now) (start .args .whole) (start .pre .0) (start .args .i + 2) _ _ (search needs) (c .quotients .ensures .at-third)
-
-fits-fourth : (c : tie.After-quotients) → (c .quotients .result .fourth .cents ≤ potLimit) × (c .quotients .result .fourth .rest ≤ weightLimit)
-fits-fourth c =
-    let start = c .before .before .before .before .before .before .before .before in
-    part-fits (start .args .pot) (start .args .weights .now) (start .args .whole) (start .pre .0) (start .args .i + 3) _ _ (search needs) (c .quotients .ensures .at-fourth)
+below : (start : tie.Start) → start .args .i + 3 < 64
+below start = omega (arith, start .pre .1 .0 .few, start .pre .1 .1)
 
 mul-quotients : tie.Need-mul-quotients
 mul-quotients c = search needs
@@ -73,133 +59,94 @@ shared-slice-read-quotients-4 c = search needs
 quotients-requires : tie.Need-quotients-requires
 quotients-requires c κs =
     let start = c .before .before .before .before .before .before .before in
-    let base = start .pre .0 in (
+    let base = start .pre .0 in
+    let fits = weight-fits (start .args .pot) (start .args .weights .now) (start .args .whole) base in (
       (base .pot-fits, base .positive, base .whole-fits),
-      (weight start (start .args .i) (search needs), weight start (start .args .i + 1) (search needs), weight start (start .args .i + 2) (search needs), weight start (start .args .i + 3) (search needs)),
+      (fits (start .args .i) (within start .0), fits (start .args .i + 1) (within start .1), fits (start .args .i + 2) (within start .2), fits (start .args .i + 3) (within start .3)),
     )
 
-mul-out : tie.Need-mul-out
-mul-out c = search needs
+keep-requires : tie.Need-keep-requires
+keep-requires c κs =
+    let start = c .before .before .before .before .before .before .before .before .before .before in
+    let parts = c .before .before .quotients .ensures in
+    may-keep (start .args .pot) (start .args .weights .now) (start .args .whole) (start .pre .0) (start .args .i) (within start .0)
+    (parts .at-first) (start .pre .1 .0)
 
-slice-write-out : tie.Need-slice-write-out
-slice-write-out c = search needs
+add-keep : tie.Need-add-keep
+add-keep c = search needs
 
-add-out : tie.Need-add-out
-add-out c = search needs
+keep-requires-2 : tie.Need-keep-requires-2
+keep-requires-2 c κs =
+    let start = c .before .before .before .before .before .before .before .before .before .before .before .before .before .before .before .before .before in
+    let parts = c .before .before .before .before .before .before .before .before .before .quotients .ensures in
+    may-keep (start .args .pot) (start .args .weights .now) (start .args .whole) (start .pre .0) (start .args .i + 1) (within start .1)
+    (parts .at-second) (room-on (start .pre .1 .0) (c .before .before .before .before .before .before .keep .ensures))
 
-mul-out-2 : tie.Need-mul-out-2
-mul-out-2 c = search needs
+add-keep-2 : tie.Need-add-keep-2
+add-keep-2 c = omega (arith, below (c .before .before .before .before .before .before .before .before .before .before .before .before .before .before .before .before .before .before .before .before .before .before))
 
-slice-write-out-2 : tie.Need-slice-write-out-2
-slice-write-out-2 c =
-    let room = c .before .before .before .before .before .before .before .before .before .before .before .before .pre .1 .0 .cents-room in
-    simp length-set (omega arith)
+keep-requires-3 : tie.Need-keep-requires-3
+keep-requires-3 c κs =
+    let start = c .before .before .before .before .before .before .before .before .before .before .before .before .before .before .before .before .before .before .before .before .before .before .before .before in
+    let parts = c .before .before .before .before .before .before .before .before .before .before .before .before .before .before .before .before .quotients .ensures in
+    may-keep (start .args .pot) (start .args .weights .now) (start .args .whole) (start .pre .0) (start .args .i + 2) (within start .2)
+    (parts .at-third) (room-on (room-on (start .pre .1 .0) (c .before .before .before .before .before .before .before .before .before .before .before .before .before .keep .ensures)) (c .before .before .before .before .before .before .keep2 .ensures))
 
-add-out-2 : tie.Need-add-out-2
-add-out-2 c = search needs
+add-keep-3 : tie.Need-add-keep-3
+add-keep-3 c = omega (arith, below (c .before .before .before .before .before .before .before .before .before .before .before .before .before .before .before .before .before .before .before .before .before .before .before .before .before .before .before .before .before))
 
-mul-out-3 : tie.Need-mul-out-3
-mul-out-3 c = search needs
+keep-requires-4 : tie.Need-keep-requires-4
+keep-requires-4 c κs =
+    let start = c .before .before .before .before .before .before .before .before .before .before .before .before .before .before .before .before .before .before .before .before .before .before .before .before .before .before .before .before .before .before .before in
+    let parts = c .before .before .before .before .before .before .before .before .before .before .before .before .before .before .before .before .before .before .before .before .before .before .before .quotients .ensures in
+    may-keep (start .args .pot) (start .args .weights .now) (start .args .whole) (start .pre .0) (start .args .i + 3) (within start .3)
+    (parts .at-fourth) (room-on (room-on (room-on (start .pre .1 .0) (c .before .before .before .before .before .before .before .before .before .before .before .before .before .before .before .before .before .before .before .before .keep .ensures)) (c .before .before .before .before .before .before .before .before .before .before .before .before .before .keep2 .ensures)) (c .before .before .before .before .before .before .keep3 .ensures))
 
-slice-write-out-3 : tie.Need-slice-write-out-3
-slice-write-out-3 c =
-    let room = c .before .before .before .before .before .before .before .before .before .before .before .before .pre .1 .0 .cents-room in
-    simp length-set (omega arith)
-
-add-out-3 : tie.Need-add-out-3
-add-out-3 c = search needs
-
-mul-out-4 : tie.Need-mul-out-4
-mul-out-4 c = search needs
-
-slice-write-out-4 : tie.Need-slice-write-out-4
-slice-write-out-4 c =
-    let room = c .before .before .before .before .before .before .before .before .before .before .before .before .pre .1 .0 .cents-room in
-    simp length-set (omega arith)
-
-key-requires : tie.Need-key-requires
-key-requires c κs = (fits-first (c .before .before .before .before) .1, few (c .before .before .before .before) _ (omega arith))
-
-mul-keys : tie.Need-mul-keys
-mul-keys c = search needs
-
-slice-write-keys : tie.Need-slice-write-keys
-slice-write-keys c = search needs
-
-add-key : tie.Need-add-key
-add-key c = search needs
-
-key-requires-2 : tie.Need-key-requires-2
-key-requires-2 c κs = (fits-second (c .before .before .before .before .before) .1, few (c .before .before .before .before .before) _ (omega arith))
-
-add-keys : tie.Need-add-keys
-add-keys c = search needs
-
-mul-keys-2 : tie.Need-mul-keys-2
-mul-keys-2 c = search needs
-
-slice-write-keys-2 : tie.Need-slice-write-keys-2
-slice-write-keys-2 c =
-    let room = c .before .before .before .before .before .before .before .before .before .before .before .before .before .before .pre .1 .0 .keys-room in
-    simp length-set (omega arith)
-
-add-key-2 : tie.Need-add-key-2
-add-key-2 c = search needs
-
-key-requires-3 : tie.Need-key-requires-3
-key-requires-3 c κs = (fits-third (c .before .before .before .before .before .before) .1, few (c .before .before .before .before .before .before) _ (omega arith))
-
-add-keys-2 : tie.Need-add-keys-2
-add-keys-2 c = search needs
-
-mul-keys-3 : tie.Need-mul-keys-3
-mul-keys-3 c = search needs
-
-slice-write-keys-3 : tie.Need-slice-write-keys-3
-slice-write-keys-3 c =
-    let room = c .before .before .before .before .before .before .before .before .before .before .before .before .before .before .before .pre .1 .0 .keys-room in
-    simp length-set (omega arith)
-
-add-key-3 : tie.Need-add-key-3
-add-key-3 c = search needs
-
-key-requires-4 : tie.Need-key-requires-4
-key-requires-4 c κs = (fits-fourth (c .before .before .before .before .before .before .before) .1, few (c .before .before .before .before .before .before .before) _ (omega arith))
-
-add-keys-3 : tie.Need-add-keys-3
-add-keys-3 c = omega (arith, c .before .before .before .before .before .before .before .before .before .before .before .before .before .before .before .before .pre .1 .0 .few, c .before .before .before .before .before .before .before .before .before .before .before .before .before .before .before .before .pre .1 .1)
-
-mul-keys-4 : tie.Need-mul-keys-4
-mul-keys-4 c = omega (arith, c .before .before .before .before .before .before .before .before .before .before .before .before .before .before .before .before .pre .1 .0 .few, c .before .before .before .before .before .before .before .before .before .before .before .before .before .before .before .before .pre .1 .1)
-
-slice-write-keys-4 : tie.Need-slice-write-keys-4
-slice-write-keys-4 c =
-    let room = c .before .before .before .before .before .before .before .before .before .before .before .before .before .before .before .before .pre .1 .0 .keys-room in
-    simp length-set (omega arith)
+sums-fit : (c : tie.After-slice-known10) → Fits w64 (c .before .before .before .before .before .before .before .before .before .before .before .before .before .before .before .before .before .before .before .before .before .before .before .before .before .keep .result + c .before .before .before .before .before .before .before .before .before .before .before .before .before .before .before .before .before .before .keep2 .result) × Fits w64 (c .before .before .before .before .before .before .before .before .before .before .before .before .before .before .before .before .before .before .before .before .before .before .before .before .before .keep .result + c .before .before .before .before .before .before .before .before .before .before .before .before .before .before .before .before .before .before .keep2 .result + c .before .before .before .before .before .before .before .before .before .before .before .keep3 .result) × Fits w64 (c .before .before .before .before .before .before .before .before .before .before .before .before .before .before .before .before .before .before .before .before .before .before .before .before .before .keep .result + c .before .before .before .before .before .before .before .before .before .before .before .before .before .before .before .before .before .before .keep2 .result + c .before .before .before .before .before .before .before .before .before .before .before .keep3 .result + c .before .before .before .before .keep4 .result)
+sums-fit c =
+    let start = c .before .before .before .before .before .before .before .before .before .before .before .before .before .before .before .before .before .before .before .before .before .before .before .before .before .before .before .before .before .before .before .before .before .before .before .before in
+    let parts = c .before .before .before .before .before .before .before .before .before .before .before .before .before .before .before .before .before .before .before .before .before .before .before .before .before .before .before .before .quotients .ensures in
+    let pot = start .args .pot in
+    let weights = start .args .weights .now in
+    let whole = start .args .whole in
+    let base = start .pre .0 in
+    four-fit
+    (cents-small pot weights whole base (start .args .i) (within start .0) (parts .at-first) (c .before .before .before .before .before .before .before .before .before .before .before .before .before .before .before .before .before .before .before .before .before .before .before .before .before .keep .ensures))
+    (cents-small pot weights whole base (start .args .i + 1) (within start .1) (parts .at-second) (c .before .before .before .before .before .before .before .before .before .before .before .before .before .before .before .before .before .before .keep2 .ensures))
+    (cents-small pot weights whole base (start .args .i + 2) (within start .2) (parts .at-third) (c .before .before .before .before .before .before .before .before .before .before .before .keep3 .ensures))
+    (cents-small pot weights whole base (start .args .i + 3) (within start .3) (parts .at-fourth) (c .before .before .before .before .keep4 .ensures))
 
 add-result : tie.Need-add-result
-add-result c = omega (arith, fits-first (c .before .before .before .before .before .before .before .before .before .before) .0, fits-second (c .before .before .before .before .before .before .before .before .before .before) .0)
+add-result c = sums-fit c .0
 
 add-result-2 : tie.Need-add-result-2
-add-result-2 c = omega (arith, fits-first (c .before .before .before .before .before .before .before .before .before .before .before) .0, fits-second (c .before .before .before .before .before .before .before .before .before .before .before) .0, fits-third (c .before .before .before .before .before .before .before .before .before .before .before) .0)
+add-result-2 c = sums-fit c .1
 
 add-result-3 : tie.Need-add-result-3
-add-result-3 c = omega (arith, fits-first (c .before .before .before .before .before .before .before .before .before .before .before .before) .0, fits-second (c .before .before .before .before .before .before .before .before .before .before .before .before) .0, fits-third (c .before .before .before .before .before .before .before .before .before .before .before .before) .0, fits-fourth (c .before .before .before .before .before .before .before .before .before .before .before .before) .0)
+add-result-3 c = sums-fit c .2
 
 same-length : tie.Need-same-length
-same-length c = simp length-set
+same-length c = search needs
 
 same-length-2 : tie.Need-same-length-2
-same-length-2 c = simp length-set
+same-length-2 c = search needs
 
 returns : tie.Need-returns
 returns c =
-    let q = c .before .before .before .before .before .before .before .before .before .before .before .before in
-    let a = q .before .before .before .before .before .before .before .before .args in
-    let parts = q .quotients .ensures in
-    cut-next-four (a .pot) (a .weights .now) (a .whole) (a .i) _ _ _ _ _ _ _ _ _ _ _ _ _ _
-    (parts .at-first) (parts .at-second) (parts .at-third) (parts .at-fourth)
-    (c .before .before .before .before .before .before .before .key .ensures) (c .before .before .before .before .before .before .key2 .ensures) (c .before .before .before .before .before .key3 .ensures) (c .before .before .before .before .key4 .ensures)
+    let start = c .before .before .before .before .before .before .before .before .before .before .before .before .before .before .before .before .before .before .before .before .before .before .before .before .before .before .before .before .before .before .before .before .before .before .before .before in
+    let parts = c .before .before .before .before .before .before .before .before .before .before .before .before .before .before .before .before .before .before .before .before .before .before .before .before .before .before .before .before .quotients .ensures in
+    let a = start .args in
+    let i = a .i in
+    let pot = a .pot in
+    let weights = a .weights .now in
+    let whole = a .whole in
+    cut-on pot weights whole
+    (cut-on pot weights whole
+    (cut-on pot weights whole
+    (cut-next pot weights whole i (i + 1) refl (parts .at-first) (c .before .before .before .before .before .before .before .before .before .before .before .before .before .before .before .before .before .before .before .before .before .before .before .before .before .keep .ensures))
+    (cut-next pot weights whole (i + 1) (i + 2) (omega arith) (parts .at-second) (c .before .before .before .before .before .before .before .before .before .before .before .before .before .before .before .before .before .before .keep2 .ensures)))
+    (cut-next pot weights whole (i + 2) (i + 3) (omega arith) (parts .at-third) (c .before .before .before .before .before .before .before .before .before .before .before .keep3 .ensures)))
+    (cut-next pot weights whole (i + 3) (i + 4) (omega arith) (parts .at-fourth) (c .before .before .before .before .keep4 .ensures))
 
 pub cut-four-spec : {M : Type 1} → statement M
 cut-four-spec =
@@ -217,35 +164,13 @@ cut-four-spec =
     mul-quotients-4
     shared-slice-read-quotients-4
     quotients-requires
-    mul-out
-    slice-write-out
-    add-out
-    mul-out-2
-    slice-write-out-2
-    add-out-2
-    mul-out-3
-    slice-write-out-3
-    add-out-3
-    mul-out-4
-    slice-write-out-4
-    key-requires
-    mul-keys
-    slice-write-keys
-    add-key
-    key-requires-2
-    add-keys
-    mul-keys-2
-    slice-write-keys-2
-    add-key-2
-    key-requires-3
-    add-keys-2
-    mul-keys-3
-    slice-write-keys-3
-    add-key-3
-    key-requires-4
-    add-keys-3
-    mul-keys-4
-    slice-write-keys-4
+    keep-requires
+    add-keep
+    keep-requires-2
+    add-keep-2
+    keep-requires-3
+    add-keep-3
+    keep-requires-4
     add-result
     add-result-2
     add-result-3

@@ -1,10 +1,9 @@
 -- `division::cents::cut_one` meets its contract.
 -- Assumes nothing.
 use mathlib.Core.Path.{refl}
-use native.Mathlib.Omega.{arith}
 use borrow.Author.Needs.{needs}
 use Rattle.division.proofs.Bounds.{weight-fits}
-use Rattle.division.proofs.Cutting.{cut-next, part-fits}
+use Rattle.division.proofs.Cutting.{cut-next, may-keep}
 use Rattle.division.proofs.cents.cut_one.Statement.{statement}
 use Rattle.division.proofs.cents.cut_one.Tie as tie
 
@@ -24,24 +23,11 @@ quotient-requires c κs =
       base .whole-fits,
     )
 
-mul-out : tie.Need-mul-out
-mul-out c = search needs
-
-slice-write-out : tie.Need-slice-write-out
-slice-write-out c = search needs
-
-key-requires : tie.Need-key-requires
-key-requires c κs =
-    let start = c .before .before .before .before .before in (
-      part-fits (start .args .pot) (start .args .weights .now) (start .args .whole) (start .pre .0) (start .args .i) _ _ (start .pre .1 .1) (c .quotient .ensures) .1,
-      omega (arith, start .pre .1 .0 .few, start .pre .1 .1),
-    )
-
-mul-keys : tie.Need-mul-keys
-mul-keys c = search needs
-
-slice-write-keys : tie.Need-slice-write-keys
-slice-write-keys c = search needs
+keep-requires : tie.Need-keep-requires
+keep-requires c κs =
+    let start = c .before .before .before .before .before .before .before in
+    may-keep (start .args .pot) (start .args .weights .now) (start .args .whole) (start .pre .0) (start .args .i) (start .pre .1 .1)
+    (c .before .before .quotient .ensures) (start .pre .1 .0)
 
 same-length : tie.Need-same-length
 same-length c = search needs
@@ -51,9 +37,9 @@ same-length-2 c = search needs
 
 returns : tie.Need-returns
 returns c =
-    let start = c .before .before .before .before .before .before in
-    cut-next (start .args .pot) (start .args .weights .now) (start .args .whole) (start .args .i) _ _ _ _ _ _ refl
-    (c .before .quotient .ensures) (c .key .ensures)
+    let start = c .before .before .before .before .before .before .before .before .before .before .before .before in
+    cut-next (start .args .pot) (start .args .weights .now) (start .args .whole) (start .args .i) _ refl
+    (c .before .before .before .before .before .before .before .quotient .ensures) (c .before .before .before .before .keep .ensures)
 
 pub cut-one-spec : {M : Type 1} → statement M
 cut-one-spec =
@@ -62,11 +48,7 @@ cut-one-spec =
     mul-quotient
     shared-slice-read-quotient
     quotient-requires
-    mul-out
-    slice-write-out
-    key-requires
-    mul-keys
-    slice-write-keys
+    keep-requires
     same-length
     same-length-2
     returns)

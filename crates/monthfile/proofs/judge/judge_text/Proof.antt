@@ -1,7 +1,7 @@
 use mathlib.Core.Path.{refl}
 use Prim.Native.Nat.{_-_}
 use mathlib.Core.List.{[], _∷_}
-use Rattle.monthfile.proofs.Judging.{judged-heads, judged-tables, counts-small, judged-end, judged-fine}
+use Rattle.monthfile.proofs.Judging.{judged-heads, judged-tables, judged-end, judged-fine}
 use borrow.Author.Needs.{needs}
 use Rattle.monthfile.proofs.judge.judge_text.Statement.{statement}
 use Rattle.monthfile.proofs.judge.judge_text.Tie as tie
@@ -44,14 +44,12 @@ returns-2 c =
     (c .before .if2 .taken) (c .stopped2 .result .held) (c .stopped2 .result .body) (c .stopped2 .ensures)
 
 -- src/judge.rt:257:46
-slice-aggregate-total-of : tie.Need-slice-aggregate-total-of
-slice-aggregate-total-of c = search needs
+slice-aggregate-sum-capped : tie.Need-slice-aggregate-sum-capped
+slice-aggregate-sum-capped c = search needs
 
 -- src/judge.rt:257:37
-total-of-requires : tie.Need-total-of-requires
-total-of-requires c κs =
-    counts-small (c .before .before .before .before .before .before .before .before .before .before .before .before .before .before .args .text .now) (0 ∷ 0 ∷ 0 ∷ []) (c .before .before .before .before .before .before .before .before .before .before .before .judge-heads .result) (c .before .before .before .before .before .before .before .before .before .before .before .judge-heads .last .1 .0) (c .before .before .before .before .before .before .before .before .before .before .before .judge-heads .ensures)
-    (c .before .before .before .before .before .before .before .if1 .left) (0 ∷ 0 ∷ 0 ∷ 0 ∷ 0 ∷ 0 ∷ []) (c .before .before .before .before .before .judge-tables .result) (c .before .before .before .before .before .judge-tables .last .1 .1 .0) (c .before .before .before .before .before .judge-tables .ensures) (c .before .if2 .left) refl
+sum-capped-requires : tie.Need-sum-capped-requires
+sum-capped-requires c κs = search needs
 
 -- src/judge.rt:257:9
 judge-end-requires : tie.Need-judge-end-requires
@@ -68,7 +66,7 @@ returns-3 : tie.Need-returns-3
 returns-3 c =
     judged-end (c .before .before .before .before .before .before .before .before .before .before .before .before .before .before .before .before .before .before .before .args .text .now) (0 ∷ 0 ∷ 0 ∷ []) (c .before .before .before .before .before .before .before .before .before .before .before .before .before .before .before .before .judge-heads .result) (c .before .before .before .before .before .before .before .before .before .before .before .before .before .before .before .before .judge-heads .last .1 .0) (c .before .before .before .before .before .before .before .before .before .before .before .before .before .before .before .before .judge-heads .ensures)
     (c .before .before .before .before .before .before .before .before .before .before .before .before .if1 .left) (0 ∷ 0 ∷ 0 ∷ 0 ∷ 0 ∷ 0 ∷ []) (c .before .before .before .before .before .before .before .before .before .before .judge-tables .result) (c .before .before .before .before .before .before .before .before .before .before .judge-tables .last .1 .1 .0) (c .before .before .before .before .before .before .before .before .before .before .judge-tables .ensures)
-    (c .before .before .before .before .before .before .if2 .left) refl (c .before .before .before .before .total-of .result) (c .before .before .before .before .total-of .ensures) (c .before .before .before .judge-end .result) (c .before .before .before .judge-end .ensures)
+    (c .before .before .before .before .before .before .if2 .left) refl (c .before .before .before .before .sum-capped .result) (c .before .before .before .before .sum-capped .ensures) (c .before .before .before .judge-end .result) (c .before .before .before .judge-end .ensures)
     (c .before .if3 .taken) (c .stopped3 .result .held) (c .stopped3 .result .body) (c .stopped3 .ensures)
 
 -- src/judge.rt:262:21
@@ -89,7 +87,7 @@ returns-4 : tie.Need-returns-4
 returns-4 c =
     judged-fine (c .before .before .before .before .before .before .before .before .before .before .before .before .before .before .before .before .before .before .before .before .before .args .text .now) (0 ∷ 0 ∷ 0 ∷ []) (c .before .before .before .before .before .before .before .before .before .before .before .before .before .before .before .before .before .before .judge-heads .result) (c .before .before .before .before .before .before .before .before .before .before .before .before .before .before .before .before .before .before .judge-heads .last .1 .0) (c .before .before .before .before .before .before .before .before .before .before .before .before .before .before .before .before .before .before .judge-heads .ensures)
     (c .before .before .before .before .before .before .before .before .before .before .before .before .before .before .if1 .left) (0 ∷ 0 ∷ 0 ∷ 0 ∷ 0 ∷ 0 ∷ []) (c .before .before .before .before .before .before .before .before .before .before .before .before .judge-tables .result) (c .before .before .before .before .before .before .before .before .before .before .before .before .judge-tables .last .1 .1 .0) (c .before .before .before .before .before .before .before .before .before .before .before .before .judge-tables .ensures)
-    (c .before .before .before .before .before .before .before .before .if2 .left) refl (c .before .before .before .before .before .before .total-of .result) (c .before .before .before .before .before .before .total-of .ensures) (c .before .before .before .before .before .judge-end .result) (c .before .before .before .before .before .judge-end .ensures)
+    (c .before .before .before .before .before .before .before .before .if2 .left) refl (c .before .before .before .before .before .before .sum-capped .result) (c .before .before .before .before .before .before .sum-capped .ensures) (c .before .before .before .before .before .judge-end .result) (c .before .before .before .before .before .judge-end .ensures)
     (c .before .before .before .if3 .left) refl (c .found .result) (c .found .ensures)
 
 pub judge-text-spec : {M : Type 1} → statement M
@@ -104,8 +102,8 @@ judge-text-spec =
     judge-tables-requires
     stopped-requires-2
     returns-2
-    slice-aggregate-total-of
-    total-of-requires
+    slice-aggregate-sum-capped
+    sum-capped-requires
     judge-end-requires
     stopped-requires-3
     returns-3

@@ -1,16 +1,24 @@
 -- The check of a division that anyone hands in.
 -- Assumes nothing.
 use Prim.Native.Nat.{ℕ}
-use mathlib.Core.Bool.{Bool, _&&_, cond}
+use mathlib.Core.Bool.{Bool, _&&_, _||_, not, cond}
 use mathlib.Core.List.{List}
-use lib.Dec.{eqb}
+use lib.Dec.{ltb, eqb}
+use lib.ListN.{length}
 use Rattle.lists.specs.Sums.{total}
 use Rattle.answer.specs.declared.Answer.{Answer}
-use Rattle.answer.specs.Numbers.{head}
+use Rattle.answer.specs.Numbers.{COUNT, head}
+use Rattle.answer.specs.Turns.{look}
 use Rattle.closeness.specs.Closeness.{level}
-use Rattle.division.specs.Limits.{checkRefusal}
-use Rattle.division.specs.declared.Verdict.{Verdict}
-use Rattle.division.specs.declared.Verdict.the-variants.{Yes, No, Refused}
+use Rattle.division.specs.Limits.{mostWeights, sizeRefusal}
+use Rattle.verdict.specs.declared.Verdict.{Verdict}
+use Rattle.verdict.specs.declared.Verdict.the-variants.{Yes, No, Refused}
+
+-- "the check at COUNT, BIG, BASE": more than 64 weights; weights and amounts differ in number
+unfoldable pub checkRefusal : ℕ → List ℕ → List ℕ → ℕ
+checkRefusal pot weights amounts =
+    look (ltb mostWeights (length weights) || not (eqb (length weights) (length amounts))) COUNT
+    (sizeRefusal pot (total weights))
 
 -- the amounts add up to the pot and are level: no amount stands more than a cent higher over its exact share than another
 -- (that these are the closest lists, by the sum of squares, is the theorem of `closeness`)

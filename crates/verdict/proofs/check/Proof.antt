@@ -1,20 +1,20 @@
--- `division::check` meets its contract: it looks for the refusals in the definition's order, then at the sum, then whether the
+-- `verdict::check` meets its contract: it looks for the refusals in the definition's order, then at the sum, then whether the
 -- amounts are level.
 -- Assumes nothing.
 use mathlib.Core.Path.{_≡_, sym, ap, _∙_}
 use mathlib.Core.Bool.{cond}
 use Prim.Native.Nat.{_≤_}
 use native.Mathlib.Omega.{arith}
-use lib.ListN.{length}
 use borrow.Author.Needs.{needs}
 use Rattle.lists.specs.Sums.{total}
-use Rattle.division.specs.Limits.{potLimit, sizeRefusal, checkRefusal}
-use Rattle.division.specs.declared.Verdict.the-variants.{Yes, No}
-use Rattle.division.proofs.Handed.{sized}
-use Rattle.division.proofs.Refusals.{number-is, sum-is}
-use Rattle.division.proofs.Verdicts.{too-many, unlike, by-size, refused, said, wrong-sum, right-sum, capped-pot, capped-other}
-use Rattle.division.proofs.check.Statement.{statement}
-use Rattle.division.proofs.check.Tie as tie
+use Rattle.division.specs.Limits.{potLimit, sizeRefusal}
+use Rattle.verdict.specs.Check.{checkRefusal}
+use Rattle.verdict.specs.declared.Verdict.the-variants.{Yes, No}
+use Rattle.division.proofs.Laws.{sized}
+use Rattle.division.proofs.Laws.{number-is, sum-is}
+use Rattle.verdict.proofs.Verdicts.{too-many, unlike, by-size, refused, said, wrong-sum, right-sum, capped-pot, capped-other}
+use Rattle.verdict.proofs.check.Statement.{statement}
+use Rattle.verdict.proofs.check.Tie as tie
 
 -- after the looks at COUNT the number is that of the sizes
 by-number : (c : tie.After-size-refusal)

@@ -3,8 +3,8 @@
 -- equal sums rule out.
 -- Assumes nothing.
 use mathlib.Core.Path.{_≡_, refl, sym, ap, _∙_}
-use mathlib.Core.Logic.{_⊎_, inl, inr, ⊎-elim, _≢_}
-use mathlib.Core.Bool.{Bool, true, false, true≢false}
+use mathlib.Core.Logic.{_⊎_, ⊎-elim, _≢_}
+use mathlib.Core.Bool.{Bool, true, false}
 use mathlib.Core.List.{List}
 use Prim.Native.Nat.{ℕ, zero, suc, _+_, _-_, _*_, _≤_, _<_, min, max}
 use native.Mathlib.Nat.{not-suc-le-zero, le-step, lt-suc-self, le-trans, le-max-left, le-max-right, max-le, min-le-left, min-le-right, le-min, mul-comm}
@@ -14,12 +14,12 @@ use lib.Dec.{leb}
 use lib.ListN.{length}
 use borrow.Author.Tests.{le-leb, leb-true}
 use Rattle.lists.specs.Sums.{sumTo, at, total, every}
-use Rattle.lists.proofs.Sums.{last-or-below, sum-tight, sum-mul, sum-eq, every-at, every-from, le-sum}
-use Rattle.lists.proofs.Ranks.{lt-or-le, true-or-false}
+use Rattle.lists.proofs.Sums.{last-or-below, sum-tight, sum-mul, every-at, every-from}
+use Rattle.lists.proofs.Ranks.{lt-or-le}
 use Rattle.answer.proofs.Turns.{zero-or-not}
 use Rattle.closeness.specs.Closeness.{level}
-use Rattle.division.specs.Steps.{height}
-use Rattle.division.proofs.Handed.{Sized}
+use Rattle.verdict.specs.Steps.{height}
+use Rattle.division.proofs.Laws.{Sized}
 
 -- the largest of f 0, .. f (n − 1), 0 where there is none, and the smallest, at most c
 unfoldable pub most : ℕ → (ℕ → ℕ) → ℕ

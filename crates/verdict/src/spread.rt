@@ -1,13 +1,12 @@
 // Whether amounts that add up to the pot are level: how high each stands over its exact share, from products in two words,
 // and the highest and the lowest of these.
 ghost use mathlib.Core.Path.{_≡_};
-ghost use mathlib.Core.Bool.{true};
 ghost use Prim.Native.Nat.{_+_, _-_, _*_, _≤_, _<_, min, max};
 ghost use lib.ListN.{length};
 ghost use Rattle.lists.specs.Sums.{total};
 ghost use Rattle.closeness.specs.Closeness.{level};
 ghost use Rattle.division.specs.Limits.{potLimit, weightLimit, sizeRefusal};
-ghost use Rattle.division.specs.Steps.{wideValue, WideProduct};
+ghost use Rattle.verdict.specs.Steps.{wideValue, WideProduct};
 
 // A number in two words: `high` times 2^19, and `low` below 2^19.
 struct Wide {

@@ -1,11 +1,11 @@
--- `division::spread::product` meets its contract: the number is its high part times 2^19 and its low part.
+-- `verdict::spread::product` meets its contract: the number is its high part times 2^19 and its low part.
 -- Assumes nothing.
-use mathlib.Core.Path.{_≡_, ap}
+use mathlib.Core.Path.{ap}
 use Prim.Native.Nat.{ℕ, _*_, _/_, _%_, _≤_}
 use native.Mathlib.Nat.{mul-le-mul, div-add-mod'}
 use native.Mathlib.Omega.{arith}
-use Rattle.division.proofs.spread.product.Statement.{statement}
-use Rattle.division.proofs.spread.product.Tie as tie
+use Rattle.verdict.proofs.spread.product.Statement.{statement}
+use Rattle.verdict.proofs.spread.product.Tie as tie
 
 -- both parts of the product are far below 2^64
 parts : (factor number : ℕ) → (factor ≤ 10_000_000_000_000) × (number ≤ 100_000_000_001)

@@ -4,18 +4,16 @@ use mathlib.Core.Path.{_≡_, refl, sym, ap, _∙_}
 use mathlib.Core.Logic.{⊎-elim, _≢_}
 use mathlib.Core.Bool.{Bool, true, false, cond}
 use mathlib.Core.List.{List}
-use Prim.Native.Nat.{ℕ, _+_, _≤_, _<_, min}
+use Prim.Native.Nat.{ℕ, _≤_, _<_, min}
 use native.Mathlib.Omega.{arith}
-use lib.Dec.{ltb, eqb}
 use lib.ListN.{length}
 use borrow.Author.Tests.{lt-ltb, le-ltb, eq-eqb, ne-eqb}
 use Rattle.lists.specs.Sums.{total}
 use Rattle.answer.proofs.Turns.{zero-or-not}
 use Rattle.closeness.specs.Closeness.{level}
-use Rattle.division.specs.Limits.{mostWeights, potLimit, sizeRefusal, checkRefusal}
-use Rattle.division.specs.Check.{passes, verdict, numberOf}
-use Rattle.division.specs.declared.Verdict.{Verdict}
-use Rattle.division.specs.declared.Verdict.the-variants.{Yes, No, Refused}
+use Rattle.division.specs.Limits.{mostWeights, potLimit, sizeRefusal}
+use Rattle.verdict.specs.Check.{checkRefusal, passes, verdict, numberOf}
+use Rattle.verdict.specs.declared.Verdict.the-variants.{Yes, No, Refused}
 
 module _ (pot : ℕ) (weights amounts : List ℕ) where
   pub too-many : mostWeights < length weights → checkRefusal pot weights amounts ≡ 1

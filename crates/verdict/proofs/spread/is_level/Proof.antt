@@ -1,20 +1,19 @@
--- `division::spread::is_level` meets its contract: the highest and the lowest height so far are those of the amounts passed.
+-- `verdict::spread::is_level` meets its contract: the highest and the lowest height so far are those of the amounts passed.
 -- Assumes nothing.
 use mathlib.Core.Path.{_≡_, sym, ap, ap₂, _∙_, subst}
 use Prim.Native.Nat.{ℕ, _≤_, _<_, _+_, _-_, _*_, min, max}
-use native.Mathlib.Nat.{le-trans, mul-comm}
+use native.Mathlib.Nat.{le-trans}
 use native.Mathlib.Omega.{arith}
 use lib.Dec.{leb}
 use lib.ListN.{length}
 use borrow.Author.Needs.{needs}
-use Rattle.lists.specs.Sums.{at, total}
+use Rattle.lists.specs.Sums.{at}
 use Rattle.lists.proofs.Sums.{le-sum}
-use Rattle.division.specs.Limits.{sizeRefusal}
-use Rattle.division.specs.Steps.{height}
-use Rattle.division.proofs.Handed.{Sized, sized}
-use Rattle.division.proofs.Heights.{most, least, most-none, most-suc, least-none, least-suc, least-le, level-spread}
-use Rattle.division.proofs.spread.is_level.Statement.{statement}
-use Rattle.division.proofs.spread.is_level.Tie as tie
+use Rattle.verdict.specs.Steps.{height}
+use Rattle.division.proofs.Laws.{Sized, sized}
+use Rattle.verdict.proofs.Heights.{most, least, most-none, most-suc, least-none, least-suc, least-le, level-spread}
+use Rattle.verdict.proofs.spread.is_level.Statement.{statement}
+use Rattle.verdict.proofs.spread.is_level.Tie as tie
 
 abbrev Inv-loop : tie.InvT-loop
 Inv-loop pot weights sum amounts highest₀ lowest₀ i₀ highest lowest i =
