@@ -7,13 +7,12 @@ use Prim.Native.Nat.{ℕ, zero, suc, _<_}
 use native.Mathlib.Omega.{arith}
 use Rattle.lists.proofs.Sums.{last-or-below}
 use Rattle.answer.specs.declared.Answer.{Answer}
-use Rattle.answer.specs.Turns.{look, accepted, refuse, _then_}
+use Rattle.answer.specs.Turns.{look, accepted, refuse, _then_, refusal}
 use Rattle.answer.proofs.Turns.{zero-or-not, then-first, then-second, refuse-none, refuse-some, refuse-number}
 use Rattle.tables.specs.declared.Table.{Table}
 use Rattle.tables.specs.declared.Table.the-variants.{Zones, Owners, Units, Accounts, Loads, Reservations}
 use Rattle.tables.specs.Shape.{number}
-use Rattle.tables.specs.Judgement.{inTurn}
-use Rattle.tables.specs.Refused.{refusal}
+use Rattle.tables.specs.Counts.{inTurn}
 use Rattle.tables.proofs.Tests.{Tests, breaks}
 
 pub data Stage (Good : Type 0) (Bad : Answer → Type 0) (a : Answer) : Type 0 where

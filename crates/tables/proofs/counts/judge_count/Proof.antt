@@ -1,7 +1,7 @@
 -- `tables::counts::judge_count` meets its contract: its tests are the definition's.
 -- Assumes nothing.
 use native.Mathlib.Omega.{arith}
-use Rattle.tables.specs.Judgement.{counted}
+use Rattle.tables.specs.Counts.{counted}
 use Rattle.tables.proofs.Places.{width-pos}
 use borrow.Author.Needs.{needs}
 use Rattle.tables.proofs.counts.judge_count.Statement.{statement}

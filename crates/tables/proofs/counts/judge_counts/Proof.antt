@@ -1,8 +1,8 @@
 -- `tables::counts::judge_counts` meets its contract: six counts, each behind the ones before.
 -- Assumes nothing.
 use Rattle.tables.specs.declared.Table.the-variants.{Zones}
-use Rattle.tables.specs.Judgement.{counted}
-use Rattle.tables.proofs.Turning.{accepted-then}
+use Rattle.tables.specs.Counts.{counted}
+use Rattle.answer.proofs.Turns.{accepted-then}
 use borrow.Author.Needs.{needs}
 use Rattle.tables.proofs.counts.judge_counts.Statement.{statement}
 use Rattle.tables.proofs.counts.judge_counts.Tie as tie

@@ -1,0 +1,23 @@
+-- `rows::load_outside` meets its contract: its tests are the definition's.
+-- Assumes nothing.
+use Rattle.rows.specs.Rows.{loadOutside}
+use borrow.Author.Needs.{needs}
+use Rattle.rows.proofs.load_outside.Statement.{statement}
+use Rattle.rows.proofs.load_outside.Tie as tie
+
+outside-requires : tie.Need-outside-requires
+outside-requires c κs = search needs
+
+outside-requires-2 : tie.Need-outside-requires-2
+outside-requires-2 c κs = search needs
+
+outside-requires-3 : tie.Need-outside-requires-3
+outside-requires-3 c κs = search needs
+
+returns : tie.Need-returns
+unfolding loadOutside
+returns c = cc
+
+pub load-outside-spec : {M : Type 1} → statement M
+load-outside-spec =
+    tie.close (tie.spec outside-requires outside-requires-2 outside-requires-3 returns)
