@@ -24,7 +24,6 @@ limit-unique table r s = one-answer _ r s
 pub rows-in-unique : (table : Table) (words r s : ℕ) → r ≡ words / width table → s ≡ words / width table → r ≡ s
 rows-in-unique table words r s = one-answer _ r s
 
--- of `entry`, and of every column by name, which is `entry` at its table and its place
 pub entry-unique : (table : Table) (column : ℕ) (words : List ℕ) (i r s : ℕ) → r ≡ entry table column words i → s ≡ entry table column words i → r ≡ s
 entry-unique table column words i r s = one-answer _ r s
 
