@@ -36,13 +36,60 @@ use Rattle.tables.specs.Columns.{
 }
 use Rattle.tables.specs.Limits.{lastZone, lastOwner, lastUnit, lastAccount, lastCustomer, blackStart, reactive, reserveLimit}
 
--- "in a row RANGE, ORDER, LINK, PAIR": the number of the first of a row's four faults that is there
-unfoldable pub rowNumber : Bool → Bool → Bool → Bool → ℕ
-rowNumber range order link pair = look range RANGE (look order ORDER (look link LINK (look pair PAIR 0)))
-
 -- "an entry outside its range"
 abbrev pub outside : ℕ → ℕ → ℕ → Bool
 outside low high x = ltb x low || ltb high x
+
+-- "1 zones: zone 1..999, rate"; "Rates are .. 0..10^8"
+unfoldable pub zoneOutside : List ℕ → ℕ → Bool
+zoneOutside zones i = outside 1 lastZone (zoneNumber zones i) || outside 0 mostRate (zoneRate zones i)
+
+-- "2 owners: owner 1..9999, zone, annual transmission requirement"; "Zone 0 .. outside an account .. is RANGE. An entry that
+-- names a row has that row's range"; "Annual requirements are 0..10^12"
+unfoldable pub ownerOutside : List ℕ → ℕ → Bool
+ownerOutside owners i =
+    outside 1 lastOwner (ownerNumber owners i)
+    || outside 1 lastZone (ownerZone owners i)
+    || outside 0 mostAnnual (ownerRequirement owners i)
+
+-- "3 units: unit 1..9999, owner, zone, service, annual requirement, reserve credit"; "Service is 1 black start or 2 reactive"
+unfoldable pub unitOutside : List ℕ → ℕ → Bool
+unitOutside units i =
+    outside 1 lastUnit (unitNumber units i)
+    || outside 1 lastOwner (unitOwner units i)
+    || outside 1 lastZone (unitZone units i)
+    || outside blackStart reactive (unitService units i)
+    || outside 0 mostAnnual (unitRequirement units i)
+    || outside 0 (reserveLimit (unitService units i)) (unitReserve units i)
+
+-- "4 accounts: account 1..9999, customer 1..10^9, zone"; "Zone 0 means non-zone or border"
+unfoldable pub accountOutside : List ℕ → ℕ → Bool
+accountOutside accounts i =
+    outside 1 lastAccount (accountNumber accounts i)
+    || outside 1 lastCustomer (accountCustomer accounts i)
+    || outside 0 lastZone (accountZone accounts i)
+
+-- "5 loads: account, day, peak load contribution"; "A day is 1..days"; "Peak load is .. 0..10^6"
+unfoldable pub loadOutside : ℕ → List ℕ → ℕ → Bool
+loadOutside days loads i =
+    outside 1 lastAccount (loadAccount loads i) || outside 1 days (loadDay loads i) || outside 0 mostLoad (loadContribution loads i)
+
+-- "6 reservations: account, reserved, curtailed"; "0..10^9, curtailed at most reserved"
+unfoldable pub reservationOutside : List ℕ → ℕ → Bool
+reservationOutside reservations i =
+    outside 1 lastAccount (reservationAccount reservations i)
+    || outside 0 mostEnergy (reservationReserved reservations i)
+    || outside 0 mostEnergy (reservationCurtailed reservations i)
+    || outside 0 (reservationReserved reservations i) (reservationCurtailed reservations i)
+
+-- RANGE of row i of a table, in a month of so many days
+abbrev pub rowOutside : ℕ → Table → List ℕ → ℕ → Bool
+rowOutside days Zones words i = zoneOutside words i
+rowOutside days Owners words i = ownerOutside words i
+rowOutside days Units words i = unitOutside words i
+rowOutside days Accounts words i = accountOutside words i
+rowOutside days Loads words i = loadOutside days words i
+rowOutside days Reservations words i = reservationOutside words i
 
 -- "a row not above the one before"; `above j i` is whether row i stands above row j
 unfoldable pub notAbove : (ℕ → ℕ → Bool) → ℕ → Bool
@@ -58,6 +105,15 @@ byAccountAndDay loads j i =
     ltb (loadAccount loads j) (loadAccount loads i)
     || (eqb (loadAccount loads j) (loadAccount loads i) && ltb (loadDay loads j) (loadDay loads i))
 
+-- ORDER of the rows of a table
+abbrev pub rowAbove : Table → List ℕ → ℕ → ℕ → Bool
+rowAbove Zones words = byFirst Zones words
+rowAbove Owners words = byFirst Owners words
+rowAbove Units words = byFirst Units words
+rowAbove Accounts words = byFirst Accounts words
+rowAbove Loads words = byAccountAndDay words
+rowAbove Reservations words = byFirst Reservations words
+
 -- row j has x as its first entry
 abbrev pub names : Table → List ℕ → ℕ → ℕ → Bool
 names table words x j = eqb (entry table 0 words j) x
@@ -65,6 +121,16 @@ names table words x j = eqb (entry table 0 words j) x
 -- "a named row doesn't exist"
 unfoldable pub unknown : Table → List ℕ → ℕ → Bool
 unknown table words x = not (any (rows table words) (names table words x))
+
+-- LINK of row i of a table: "A zone, owner or account that a row refers to must have a row (account zone 0 excepted)"; "A unit may
+-- serve a zone that isn't its owner's"
+abbrev pub rowUnlinked : List ℕ → List ℕ → List ℕ → Table → List ℕ → ℕ → Bool
+rowUnlinked zones owners accounts Zones words i = false
+rowUnlinked zones owners accounts Owners words i = unknown Zones zones (ownerZone words i)
+rowUnlinked zones owners accounts Units words i = unknown Owners owners (unitOwner words i) || unknown Zones zones (unitZone words i)
+rowUnlinked zones owners accounts Accounts words i = not (eqb (accountZone words i) 0) && unknown Zones zones (accountZone words i)
+rowUnlinked zones owners accounts Loads words i = unknown Accounts accounts (loadAccount words i)
+rowUnlinked zones owners accounts Reservations words i = unknown Accounts accounts (reservationAccount words i)
 
 -- two accounts "share customer and zone"
 abbrev pub samePair : List ℕ → ℕ → ℕ → Bool
@@ -75,97 +141,27 @@ samePair accounts j i =
 unfoldable pub taken : List ℕ → ℕ → Bool
 taken accounts i = any i (λ j. samePair accounts j i)
 
--- "1 zones: zone 1..999, rate"; "Rates are .. 0..10^8"
-unfoldable pub zoneOutside : ℕ → ℕ → Bool
-zoneOutside zone rate = outside 1 lastZone zone || outside 0 mostRate rate
+-- PAIR of row i of a table: only accounts have customer and zone
+abbrev pub rowTaken : Table → List ℕ → ℕ → Bool
+rowTaken Zones words i = false
+rowTaken Owners words i = false
+rowTaken Units words i = false
+rowTaken Accounts words i = taken words i
+rowTaken Loads words i = false
+rowTaken Reservations words i = false
 
--- .. "strictly ascend by their first entry"; a row of zones names no other and has no pair
-unfoldable pub zoneRow : List ℕ → ℕ → ℕ
-zoneRow zones i =
-    rowNumber (zoneOutside (zoneNumber zones i) (zoneRate zones i)) (notAbove (byFirst Zones zones) i) false false
-
--- "2 owners: owner 1..9999, zone, annual transmission requirement"; "Zone 0 .. outside an account .. is RANGE. An entry that
--- names a row has that row's range"; "Annual requirements are 0..10^12"
-unfoldable pub ownerOutside : ℕ → ℕ → ℕ → Bool
-ownerOutside owner zone annual = outside 1 lastOwner owner || outside 1 lastZone zone || outside 0 mostAnnual annual
-
--- .. "A zone .. that a row refers to must have a row"
-unfoldable pub ownerRow : List ℕ → List ℕ → ℕ → ℕ
-ownerRow zones owners i =
-    rowNumber
-    (ownerOutside (ownerNumber owners i) (ownerZone owners i) (ownerRequirement owners i))
-    (notAbove (byFirst Owners owners) i)
-    (unknown Zones zones (ownerZone owners i))
-    false
-
--- "3 units: unit 1..9999, owner, zone, service, annual requirement, reserve credit"; "Service is 1 black start or 2 reactive"
-unfoldable pub unitOutside : ℕ → ℕ → ℕ → ℕ → ℕ → ℕ → Bool
-unitOutside unit owner zone service annual reserve =
-    outside 1 lastUnit unit
-    || outside 1 lastOwner owner
-    || outside 1 lastZone zone
-    || outside blackStart reactive service
-    || outside 0 mostAnnual annual
-    || outside 0 (reserveLimit service) reserve
-
--- .. "A unit may serve a zone that isn't its owner's"
-unfoldable pub unitRow : List ℕ → List ℕ → List ℕ → ℕ → ℕ
-unitRow zones owners units i =
-    rowNumber
-    (unitOutside (unitNumber units i) (unitOwner units i) (unitZone units i) (unitService units i) (unitRequirement units i)
-    (unitReserve units i))
-    (notAbove (byFirst Units units) i)
-    (unknown Owners owners (unitOwner units i) || unknown Zones zones (unitZone units i))
-    false
-
--- "4 accounts: account 1..9999, customer 1..10^9, zone"; "Zone 0 means non-zone or border"
-unfoldable pub accountOutside : ℕ → ℕ → ℕ → Bool
-accountOutside account customer zone = outside 1 lastAccount account || outside 1 lastCustomer customer || outside 0 lastZone zone
-
--- .. "must have a row (account zone 0 excepted). No two accounts share customer and zone"
-unfoldable pub accountRow : List ℕ → List ℕ → ℕ → ℕ
-accountRow zones accounts i =
-    rowNumber
-    (accountOutside (accountNumber accounts i) (accountCustomer accounts i) (accountZone accounts i))
-    (notAbove (byFirst Accounts accounts) i)
-    (not (eqb (accountZone accounts i) 0) && unknown Zones zones (accountZone accounts i))
-    (taken accounts i)
-
--- "5 loads: account, day, peak load contribution"; "A day is 1..days"; "Peak load is .. 0..10^6"
-unfoldable pub loadOutside : ℕ → ℕ → ℕ → ℕ → Bool
-loadOutside days account day contribution = outside 1 lastAccount account || outside 1 days day || outside 0 mostLoad contribution
-
--- .. "loads by account, then day"
-unfoldable pub loadRow : ℕ → List ℕ → List ℕ → ℕ → ℕ
-loadRow days accounts loads i =
-    rowNumber
-    (loadOutside days (loadAccount loads i) (loadDay loads i) (loadContribution loads i))
-    (notAbove (byAccountAndDay loads) i)
-    (unknown Accounts accounts (loadAccount loads i))
-    false
-
--- "6 reservations: account, reserved, curtailed"; "0..10^9, curtailed at most reserved"
-unfoldable pub reservationOutside : ℕ → ℕ → ℕ → Bool
-reservationOutside account reserved curtailed =
-    outside 1 lastAccount account || outside 0 mostEnergy reserved || outside 0 mostEnergy curtailed || outside 0 reserved curtailed
-
--- .. "reservations strictly ascend by their first entry", so that no account has two
-unfoldable pub reservationRow : List ℕ → List ℕ → ℕ → ℕ
-reservationRow accounts reservations i =
-    rowNumber
-    (reservationOutside (reservationAccount reservations i) (reservationReserved reservations i) (reservationCurtailed reservations i))
-    (notAbove (byFirst Reservations reservations) i)
-    (unknown Accounts accounts (reservationAccount reservations i))
-    false
+-- "in a row RANGE, ORDER, LINK, PAIR": the number of the first of a row's four faults that is there
+unfoldable pub rowNumber : Bool → Bool → Bool → Bool → ℕ
+rowNumber range order link pair = look range RANGE (look order ORDER (look link LINK (look pair PAIR 0)))
 
 -- the number of row i of a table, in a month of so many days; its entries may name rows of the zones, owners and accounts
-abbrev pub rowIn : ℕ → List ℕ → List ℕ → List ℕ → Table → List ℕ → ℕ → ℕ
-rowIn days zones owners accounts Zones words = zoneRow words
-rowIn days zones owners accounts Owners words = ownerRow zones words
-rowIn days zones owners accounts Units words = unitRow zones owners words
-rowIn days zones owners accounts Accounts words = accountRow zones words
-rowIn days zones owners accounts Loads words = loadRow days accounts words
-rowIn days zones owners accounts Reservations words = reservationRow accounts words
+unfoldable pub rowIn : ℕ → List ℕ → List ℕ → List ℕ → Table → List ℕ → ℕ → ℕ
+rowIn days zones owners accounts table words i =
+    rowNumber
+    (rowOutside days table words i)
+    (notAbove (rowAbove table words) i)
+    (rowUnlinked zones owners accounts table words i)
+    (rowTaken table words i)
 
 -- .. and of a month's table
 abbrev pub rowOf : ℕ → Tables → Table → ℕ → ℕ

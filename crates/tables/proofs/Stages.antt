@@ -53,7 +53,7 @@ at-number Accounts = refl
 at-number Loads = refl
 at-number Reservations = refl
 
-same-number : (a b : Table) → number a ≡ number b → a ≡ b
+pub same-number : (a b : Table) → number a ≡ number b → a ≡ b
 same-number a b e = sym (at-number a) ∙ ap (λ n. tableAt (n - 1)) e ∙ at-number b
 
 from-one : (table : Table) → 0 < number table

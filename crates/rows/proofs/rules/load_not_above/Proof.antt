@@ -11,37 +11,43 @@ use Rattle.rows.proofs.rules.load_not_above.Tie as tie
 returns : tie.Need-returns
 returns c = first-row _ _ (c .if1 .taken)
 
-sub-load-account : tie.Need-sub-load-account
-sub-load-account c = search needs
+sub-entry : tie.Need-sub-entry
+sub-entry c = search needs
 
-load-account-requires : tie.Need-load-account-requires
-load-account-requires c κs = search needs
+entry-requires : tie.Need-entry-requires
+entry-requires c κs = search needs
 
-load-account-requires-2 : tie.Need-load-account-requires-2
-load-account-requires-2 c κs = search needs
+entry-requires-2 : tie.Need-entry-requires-2
+entry-requires-2 c κs = search needs
 
-sub-load-day : tie.Need-sub-load-day
-sub-load-day c = search needs
+sub-entry-2 : tie.Need-sub-entry-2
+sub-entry-2 c = search needs
 
-load-day-requires : tie.Need-load-day-requires
-load-day-requires c κs = search needs
+entry-requires-3 : tie.Need-entry-requires-3
+entry-requires-3 c κs = search needs
 
-load-day-requires-2 : tie.Need-load-day-requires-2
-load-day-requires-2 c κs = search needs
+entry-requires-4 : tie.Need-entry-requires-4
+entry-requires-4 c κs = search needs
 
 returns-2 : tie.Need-returns-2
-returns-2 c =
-    (cc) ∙ later-row (byAccountAndDay (now (c .before .before .before .before .before .before .args .loads))) _ (c .before .before .before .before .if1 .left)
+returns-2 c = 
+    (simp (
+      c .entry4 .ensures,
+      c .before .entry3 .ensures,
+      c .before .before .entry2 .ensures,
+      c .before .before .before .entry .ensures,
+    ))
+    ∙ later-row (byAccountAndDay (now (c .before .before .before .before .before .before .args .loads))) _ (c .before .before .before .before .if1 .left)
 
 pub load-not-above-spec : {M : Type 1} → statement M
 load-not-above-spec =
     tie.close
     (tie.spec
     returns
-    sub-load-account
-    load-account-requires
-    load-account-requires-2
-    sub-load-day
-    load-day-requires
-    load-day-requires-2
+    sub-entry
+    entry-requires
+    entry-requires-2
+    sub-entry-2
+    entry-requires-3
+    entry-requires-4
     returns-2)

@@ -4,27 +4,27 @@ use borrow.Author.Needs.{needs}
 use Rattle.rows.proofs.rules.same_pair.Statement.{statement}
 use Rattle.rows.proofs.rules.same_pair.Tie as tie
 
-account-customer-requires : tie.Need-account-customer-requires
-account-customer-requires c κs = search needs
+entry-requires : tie.Need-entry-requires
+entry-requires c κs = search needs
 
-account-customer-requires-2 : tie.Need-account-customer-requires-2
-account-customer-requires-2 c κs = search needs
+entry-requires-2 : tie.Need-entry-requires-2
+entry-requires-2 c κs = search needs
 
-account-zone-requires : tie.Need-account-zone-requires
-account-zone-requires c κs = search needs
+entry-requires-3 : tie.Need-entry-requires-3
+entry-requires-3 c κs = search needs
 
-account-zone-requires-2 : tie.Need-account-zone-requires-2
-account-zone-requires-2 c κs = search needs
+entry-requires-4 : tie.Need-entry-requires-4
+entry-requires-4 c κs = search needs
 
 returns : tie.Need-returns
-returns c = cc
+returns c = 
+    simp (
+      c .entry4 .ensures,
+      c .before .entry3 .ensures,
+      c .before .before .entry2 .ensures,
+      c .before .before .before .entry .ensures,
+    )
 
 pub same-pair-spec : {M : Type 1} → statement M
 same-pair-spec =
-    tie.close
-    (tie.spec
-    account-customer-requires
-    account-customer-requires-2
-    account-zone-requires
-    account-zone-requires-2
-    returns)
+    tie.close (tie.spec entry-requires entry-requires-2 entry-requires-3 entry-requires-4 returns)

@@ -1,8 +1,8 @@
--- `rows::rules::reserve_limit` meets its contract: its test is the definition's.
+-- `rows::ranges::reserve_limit` meets its contract: its test is the definition's.
 -- Assumes nothing.
 use borrow.Author.Tests.{eq-eqb, ne-eqb}
-use Rattle.rows.proofs.rules.reserve_limit.Statement.{statement}
-use Rattle.rows.proofs.rules.reserve_limit.Tie as tie
+use Rattle.rows.proofs.ranges.reserve_limit.Statement.{statement}
+use Rattle.rows.proofs.ranges.reserve_limit.Tie as tie
 
 returns : tie.Need-returns
 returns c = simp (eq-eqb _ _ (c .if1 .taken))
