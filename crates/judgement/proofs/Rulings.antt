@@ -9,7 +9,7 @@ use native.Mathlib.Omega.{arith}
 use Rattle.month.specs.Limits.{mostRate, mostAnnual, mostLoad, mostEnergy}
 use Rattle.tables.specs.declared.Table.{Table}
 use Rattle.tables.specs.declared.Table.the-variants.{Zones, Owners, Units, Accounts, Loads, Reservations}
-use Rattle.tables.specs.Shape.{Tables}
+use Rattle.tables.specs.Shape.{Tables, wordsOf}
 use Rattle.tables.specs.Columns.{
   zoneNumber,
   zoneRate,
@@ -33,27 +33,27 @@ use Rattle.tables.specs.Columns.{
   reservationCurtailed,
 }
 use Rattle.tables.specs.Limits.{lastZone, lastOwner, lastUnit, lastAccount, lastCustomer, blackStart, reactive}
-use Rattle.rows.specs.Rows.{rowNumber, notAbove, byFirst, byAccountAndDay, zoneOutside, zoneRow, ownerOutside, ownerRow, unitOutside, unitRow, accountOutside, accountRow, loadOutside, loadRow, reservationOutside, reservationRow, rowOf}
+use Rattle.rows.specs.Rows.{rowNumber, notAbove, byFirst, byAccountAndDay, zoneOutside, ownerOutside, unitOutside, accountOutside, loadOutside, reservationOutside, rowOutside, rowAbove, rowUnlinked, rowTaken, rowIn, rowOf}
 use Rattle.judgement.specs.Good.{ZoneInRange, OwnerInRange, UnitInRange, AccountInRange, LoadInRange, ReservationInRange, InRange, FirstAbove, Ascending, Linked, Unpaired, GoodRow}
 use Rattle.judgement.specs.Refused.{FirstBroken, by-range, by-order, by-link, by-pair}
 use Rattle.tables.proofs.Tests.{Tests, breaks, reworded, no-rule, both}
 use Rattle.judgement.proofs.Keeping.{within, reserve, above-before, first-above, load-above, known, unless-zero, own-pair}
 
 -- RANGE, table by table
-zone-range : (zones : List ℕ) (i : ℕ) → Tests (ZoneInRange zones i) (zoneOutside (zoneNumber zones i) (zoneRate zones i))
+zone-range : (zones : List ℕ) (i : ℕ) → Tests (ZoneInRange zones i) (zoneOutside zones i)
 unfolding zoneOutside
 zone-range zones i =
     reworded (λ p. record { zone = p .0; rate = p .1 }) (λ r. (r .zone, r .rate))
     (both (within 1 lastZone (zoneNumber zones i)) (within 0 mostRate (zoneRate zones i)))
 
-owner-range : (owners : List ℕ) (i : ℕ) → Tests (OwnerInRange owners i) (ownerOutside (ownerNumber owners i) (ownerZone owners i) (ownerRequirement owners i))
+owner-range : (owners : List ℕ) (i : ℕ) → Tests (OwnerInRange owners i) (ownerOutside owners i)
 unfolding ownerOutside
 owner-range owners i =
     reworded (λ p. record { owner = p .0 .0; zone = p .0 .1; requirement = p .1 }) (λ r. ((r .owner, r .zone), r .requirement))
     (both (both (within 1 lastOwner (ownerNumber owners i)) (within 1 lastZone (ownerZone owners i)))
     (within 0 mostAnnual (ownerRequirement owners i)))
 
-unit-range : (units : List ℕ) (i : ℕ) → Tests (UnitInRange units i) (unitOutside (unitNumber units i) (unitOwner units i) (unitZone units i) (unitService units i) (unitRequirement units i) (unitReserve units i))
+unit-range : (units : List ℕ) (i : ℕ) → Tests (UnitInRange units i) (unitOutside units i)
 unfolding unitOutside
 unit-range units i =
     reworded
@@ -76,21 +76,21 @@ unit-range units i =
     (within 0 mostAnnual (unitRequirement units i)))
     (reserve (unitService units i) (unitReserve units i)))
 
-account-range : (accounts : List ℕ) (i : ℕ) → Tests (AccountInRange accounts i) (accountOutside (accountNumber accounts i) (accountCustomer accounts i) (accountZone accounts i))
+account-range : (accounts : List ℕ) (i : ℕ) → Tests (AccountInRange accounts i) (accountOutside accounts i)
 unfolding accountOutside
 account-range accounts i =
     reworded (λ p. record { account = p .0 .0; customer = p .0 .1; zone = p .1 }) (λ r. ((r .account, r .customer), r .zone))
     (both (both (within 1 lastAccount (accountNumber accounts i)) (within 1 lastCustomer (accountCustomer accounts i)))
     (within 0 lastZone (accountZone accounts i)))
 
-load-range : (days : ℕ) (loads : List ℕ) (i : ℕ) → Tests (LoadInRange days loads i) (loadOutside days (loadAccount loads i) (loadDay loads i) (loadContribution loads i))
+load-range : (days : ℕ) (loads : List ℕ) (i : ℕ) → Tests (LoadInRange days loads i) (loadOutside days loads i)
 unfolding loadOutside
 load-range days loads i =
     reworded (λ p. record { account = p .0 .0; day = p .0 .1; contribution = p .1 }) (λ r. ((r .account, r .day), r .contribution))
     (both (both (within 1 lastAccount (loadAccount loads i)) (within 1 days (loadDay loads i)))
     (within 0 mostLoad (loadContribution loads i)))
 
-reservation-range : (reservations : List ℕ) (i : ℕ) → Tests (ReservationInRange reservations i) (reservationOutside (reservationAccount reservations i) (reservationReserved reservations i) (reservationCurtailed reservations i))
+reservation-range : (reservations : List ℕ) (i : ℕ) → Tests (ReservationInRange reservations i) (reservationOutside reservations i)
 unfolding reservationOutside
 reservation-range reservations i =
     reworded
@@ -100,6 +100,14 @@ reservation-range reservations i =
     (both (both (within 1 lastAccount (reservationAccount reservations i)) (within 0 mostEnergy (reservationReserved reservations i)))
     (within 0 mostEnergy (reservationCurtailed reservations i)))
     (within 0 (reservationReserved reservations i) (reservationCurtailed reservations i)))
+
+range-tested : (days : ℕ) (t : Tables) (table : Table) (i : ℕ) → Tests (InRange days t table i) (rowOutside days table (wordsOf t table) i)
+range-tested days t Zones i = zone-range (t .zones) i
+range-tested days t Owners i = owner-range (t .owners) i
+range-tested days t Units i = unit-range (t .units) i
+range-tested days t Accounts i = account-range (t .accounts) i
+range-tested days t Loads i = load-range days (t .loads) i
+range-tested days t Reservations i = reservation-range (t .reservations) i
 
 -- what a number says of a row: 0 that it is good, any other which rule is the first that is broken
 pub data Ruling (days : ℕ) (t : Tables) (table : Table) (i n : ℕ) : Type 0 where
@@ -122,27 +130,32 @@ module _ (days : ℕ) (t : Tables) (table : Table) (i : ℕ) where
 ascending-by-first : (table : Table) (words : List ℕ) (i : ℕ) → Tests ((j : ℕ) → i ≡ j + 1 → FirstAbove table words j i) (notAbove (byFirst table words) i)
 ascending-by-first table words = above-before (byFirst table words) (first-above table words)
 
+-- ORDER, LINK and PAIR, table by table
+order-tested : (t : Tables) (table : Table) (i : ℕ) → Tests (Ascending t table i) (notAbove (rowAbove table (wordsOf t table)) i)
+order-tested t Zones i = ascending-by-first Zones (t .zones) i
+order-tested t Owners i = ascending-by-first Owners (t .owners) i
+order-tested t Units i = ascending-by-first Units (t .units) i
+order-tested t Accounts i = ascending-by-first Accounts (t .accounts) i
+order-tested t Loads i = above-before (byAccountAndDay (t .loads)) (load-above (t .loads)) i
+order-tested t Reservations i = ascending-by-first Reservations (t .reservations) i
+
+link-tested : (t : Tables) (table : Table) (i : ℕ) → Tests (Linked t table i) (rowUnlinked (t .zones) (t .owners) (t .accounts) table (wordsOf t table) i)
+link-tested t Zones i = no-rule
+link-tested t Owners i = known Zones (t .zones) (ownerZone (t .owners) i)
+link-tested t Units i = both (known Owners (t .owners) (unitOwner (t .units) i)) (known Zones (t .zones) (unitZone (t .units) i))
+link-tested t Accounts i = unless-zero (accountZone (t .accounts) i) (known Zones (t .zones) (accountZone (t .accounts) i))
+link-tested t Loads i = known Accounts (t .accounts) (loadAccount (t .loads) i)
+link-tested t Reservations i = known Accounts (t .accounts) (reservationAccount (t .reservations) i)
+
+pair-tested : (t : Tables) (table : Table) (i : ℕ) → Tests (Unpaired t table i) (rowTaken table (wordsOf t table) i)
+pair-tested t Zones i = no-rule
+pair-tested t Owners i = no-rule
+pair-tested t Units i = no-rule
+pair-tested t Accounts i = own-pair (t .accounts) i
+pair-tested t Loads i = no-rule
+pair-tested t Reservations i = no-rule
+
 pub row-ruled : (days : ℕ) (t : Tables) (table : Table) (i : ℕ) → Ruling days t table i (rowOf days t table i)
-unfolding zoneRow ownerRow unitRow accountRow loadRow reservationRow
-row-ruled days t Zones i =
-    ruled days t Zones i (zone-range (t .zones) i) (ascending-by-first Zones (t .zones) i) no-rule no-rule
-row-ruled days t Owners i =
-    ruled days t Owners i (owner-range (t .owners) i) (ascending-by-first Owners (t .owners) i)
-    (known Zones (t .zones) (ownerZone (t .owners) i))
-    no-rule
-row-ruled days t Units i =
-    ruled days t Units i (unit-range (t .units) i) (ascending-by-first Units (t .units) i)
-    (both (known Owners (t .owners) (unitOwner (t .units) i)) (known Zones (t .zones) (unitZone (t .units) i)))
-    no-rule
-row-ruled days t Accounts i =
-    ruled days t Accounts i (account-range (t .accounts) i) (ascending-by-first Accounts (t .accounts) i)
-    (unless-zero (accountZone (t .accounts) i) (known Zones (t .zones) (accountZone (t .accounts) i)))
-    (own-pair (t .accounts) i)
-row-ruled days t Loads i =
-    ruled days t Loads i (load-range days (t .loads) i) (above-before (byAccountAndDay (t .loads)) (load-above (t .loads)) i)
-    (known Accounts (t .accounts) (loadAccount (t .loads) i))
-    no-rule
-row-ruled days t Reservations i =
-    ruled days t Reservations i (reservation-range (t .reservations) i) (ascending-by-first Reservations (t .reservations) i)
-    (known Accounts (t .accounts) (reservationAccount (t .reservations) i))
-    no-rule
+unfolding rowIn
+row-ruled days t table i =
+    ruled days t table i (range-tested days t table i) (order-tested t table i) (link-tested t table i) (pair-tested t table i)
