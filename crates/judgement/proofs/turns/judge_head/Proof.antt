@@ -22,7 +22,14 @@ look-at-requires c κs = search needs
 
 returns : tie.Need-returns
 unfolding headJudged
-returns c = cc
+returns c =
+    simp (
+      c .look-at .ensures,
+      c .before .look2 .ensures,
+      c .before .before .no-month .ensures,
+      c .before .before .before .look .ensures,
+      c .before .before .before .before .outside .ensures,
+    )
 
 pub judge-head-spec : {M : Type 1} → statement M
 judge-head-spec =

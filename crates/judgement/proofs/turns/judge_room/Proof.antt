@@ -34,7 +34,13 @@ look-at-requires-2 c κs = search needs
 returns : tie.Need-returns
 unfolding roomFor
 returns c =
-    cc (
+    simp (
+      c .look-at2 .ensures,
+      c .before .look-at .ensures,
+      c .before .before .look2 .ensures,
+      c .before .before .before .look .ensures,
+      c .before .before .before .before .rows-in2 .ensures,
+      c .before .before .before .before .before .rows-in .ensures,
       places (entry c .args .charges) chargeWidth (entry c .args .accounts / width Accounts) (omega arith),
       places (entry c .args .credits) creditWidth (entry c .args .owners / width Owners) (omega arith),
     )
