@@ -2,10 +2,10 @@
 ghost use mathlib.Core.Path.{_≡_};
 ghost use Prim.Native.Nat.{_<_};
 ghost use Rattle.tables.specs.declared.Table.the-variants.{Zones, Owners, Units, Accounts, Loads, Reservations};
-ghost use Rattle.tables.specs.Shape.{rows, width};
+ghost use Rattle.tables.specs.Shape.{rows};
 ghost use Rattle.tables.specs.Limits.{reserveLimit};
-ghost use Rattle.tables.specs.Columns.{entry};
-ghost use Rattle.rows.specs.Rows.{outside, zoneOutside, ownerOutside, unitOutside, accountOutside, loadOutside, reservationOutside, rowOutside};
+ghost use Rattle.rows.specs.Rows.{zoneOutside, ownerOutside, unitOutside, accountOutside, loadOutside, reservationOutside, rowOutside};
+use crate::outside;
 use tables::BLACK_START;
 use tables::LAST_ACCOUNT;
 use tables::LAST_CUSTOMER;
@@ -19,32 +19,45 @@ use tables::MOST_RATE;
 use tables::MOST_RESERVE;
 use tables::REACTIVE;
 use tables::Table;
-use tables::columns;
+use tables::columns::ACCOUNT_CUSTOMER;
+use tables::columns::ACCOUNT_NUMBER;
+use tables::columns::ACCOUNT_ZONE;
+use tables::columns::LOAD_ACCOUNT;
+use tables::columns::LOAD_CONTRIBUTION;
+use tables::columns::LOAD_DAY;
+use tables::columns::OWNER_NUMBER;
+use tables::columns::OWNER_REQUIREMENT;
+use tables::columns::OWNER_ZONE;
+use tables::columns::RESERVATION_ACCOUNT;
+use tables::columns::RESERVATION_CURTAILED;
+use tables::columns::RESERVATION_RESERVED;
+use tables::columns::UNIT_NUMBER;
+use tables::columns::UNIT_OWNER;
+use tables::columns::UNIT_REQUIREMENT;
+use tables::columns::UNIT_RESERVE;
+use tables::columns::UNIT_SERVICE;
+use tables::columns::UNIT_ZONE;
+use tables::columns::ZONE_NUMBER;
+use tables::columns::ZONE_RATE;
 use tables::columns::entry;
-
-// The entry of row `i` in a column is outside low..high.
-fn outside_at(table: Table, column: usize, low: u64, high: u64, words: &[u64], i: usize) -> bool
-    requires { ⌜ (i < rows table (now words)) × (column < width table) ⌝ }
-    ensures { λ r. ⌜ r ≡ outside low high (entry table column (now (words .entry)) i) ⌝ }
-{
-    crate::outside(low, high, entry(table, column, words, i))
-}
 
 fn zone_outside(zones: &[u64], i: usize) -> bool
     requires { ⌜ i < rows Zones (now zones) ⌝ }
     ensures { λ r. ⌜ r ≡ zoneOutside (now (zones .entry)) i ⌝ }
 {
-    outside_at(Table::Zones, columns::ZONE_NUMBER, 1, LAST_ZONE, zones, i)
-        | outside_at(Table::Zones, columns::ZONE_RATE, 0, MOST_RATE, zones, i)
+    let zone = entry(Table::Zones, ZONE_NUMBER, zones, i);
+    let rate = entry(Table::Zones, ZONE_RATE, zones, i);
+    outside(1, LAST_ZONE, zone) | outside(0, MOST_RATE, rate)
 }
 
 fn owner_outside(owners: &[u64], i: usize) -> bool
     requires { ⌜ i < rows Owners (now owners) ⌝ }
     ensures { λ r. ⌜ r ≡ ownerOutside (now (owners .entry)) i ⌝ }
 {
-    outside_at(Table::Owners, columns::OWNER_NUMBER, 1, LAST_OWNER, owners, i)
-        | outside_at(Table::Owners, columns::OWNER_ZONE, 1, LAST_ZONE, owners, i)
-        | outside_at(Table::Owners, columns::OWNER_REQUIREMENT, 0, MOST_ANNUAL, owners, i)
+    let owner = entry(Table::Owners, OWNER_NUMBER, owners, i);
+    let zone = entry(Table::Owners, OWNER_ZONE, owners, i);
+    let annual = entry(Table::Owners, OWNER_REQUIREMENT, owners, i);
+    outside(1, LAST_OWNER, owner) | outside(1, LAST_ZONE, zone) | outside(0, MOST_ANNUAL, annual)
 }
 
 // The most that a reserve credit may be, by its unit's service.
@@ -61,42 +74,53 @@ fn unit_outside(units: &[u64], i: usize) -> bool
     requires { ⌜ i < rows Units (now units) ⌝ }
     ensures { λ r. ⌜ r ≡ unitOutside (now (units .entry)) i ⌝ }
 {
-    let most_reserve = reserve_limit(entry(Table::Units, columns::UNIT_SERVICE, units, i));
-    outside_at(Table::Units, columns::UNIT_NUMBER, 1, LAST_UNIT, units, i)
-        | outside_at(Table::Units, columns::UNIT_OWNER, 1, LAST_OWNER, units, i)
-        | outside_at(Table::Units, columns::UNIT_ZONE, 1, LAST_ZONE, units, i)
-        | outside_at(Table::Units, columns::UNIT_SERVICE, BLACK_START, REACTIVE, units, i)
-        | outside_at(Table::Units, columns::UNIT_REQUIREMENT, 0, MOST_ANNUAL, units, i)
-        | outside_at(Table::Units, columns::UNIT_RESERVE, 0, most_reserve, units, i)
+    let unit = entry(Table::Units, UNIT_NUMBER, units, i);
+    let owner = entry(Table::Units, UNIT_OWNER, units, i);
+    let zone = entry(Table::Units, UNIT_ZONE, units, i);
+    let service = entry(Table::Units, UNIT_SERVICE, units, i);
+    let annual = entry(Table::Units, UNIT_REQUIREMENT, units, i);
+    let reserve = entry(Table::Units, UNIT_RESERVE, units, i);
+    outside(1, LAST_UNIT, unit)
+        | outside(1, LAST_OWNER, owner)
+        | outside(1, LAST_ZONE, zone)
+        | outside(BLACK_START, REACTIVE, service)
+        | outside(0, MOST_ANNUAL, annual)
+        | outside(0, reserve_limit(service), reserve)
 }
 
 fn account_outside(accounts: &[u64], i: usize) -> bool
     requires { ⌜ i < rows Accounts (now accounts) ⌝ }
     ensures { λ r. ⌜ r ≡ accountOutside (now (accounts .entry)) i ⌝ }
 {
-    outside_at(Table::Accounts, columns::ACCOUNT_NUMBER, 1, LAST_ACCOUNT, accounts, i)
-        | outside_at(Table::Accounts, columns::ACCOUNT_CUSTOMER, 1, LAST_CUSTOMER, accounts, i)
-        | outside_at(Table::Accounts, columns::ACCOUNT_ZONE, 0, LAST_ZONE, accounts, i)
+    let account = entry(Table::Accounts, ACCOUNT_NUMBER, accounts, i);
+    let customer = entry(Table::Accounts, ACCOUNT_CUSTOMER, accounts, i);
+    let zone = entry(Table::Accounts, ACCOUNT_ZONE, accounts, i);
+    outside(1, LAST_ACCOUNT, account)
+        | outside(1, LAST_CUSTOMER, customer)
+        | outside(0, LAST_ZONE, zone)
 }
 
 fn load_outside(days: u64, loads: &[u64], i: usize) -> bool
     requires { ⌜ i < rows Loads (now loads) ⌝ }
     ensures { λ r. ⌜ r ≡ loadOutside days (now (loads .entry)) i ⌝ }
 {
-    outside_at(Table::Loads, columns::LOAD_ACCOUNT, 1, LAST_ACCOUNT, loads, i)
-        | outside_at(Table::Loads, columns::LOAD_DAY, 1, days, loads, i)
-        | outside_at(Table::Loads, columns::LOAD_CONTRIBUTION, 0, MOST_LOAD, loads, i)
+    let account = entry(Table::Loads, LOAD_ACCOUNT, loads, i);
+    let day = entry(Table::Loads, LOAD_DAY, loads, i);
+    let contribution = entry(Table::Loads, LOAD_CONTRIBUTION, loads, i);
+    outside(1, LAST_ACCOUNT, account) | outside(1, days, day) | outside(0, MOST_LOAD, contribution)
 }
 
 fn reservation_outside(words: &[u64], i: usize) -> bool
     requires { ⌜ i < rows Reservations (now words) ⌝ }
     ensures { λ r. ⌜ r ≡ reservationOutside (now (words .entry)) i ⌝ }
 {
-    let reserved = entry(Table::Reservations, columns::RESERVATION_RESERVED, words, i);
-    outside_at(Table::Reservations, columns::RESERVATION_ACCOUNT, 1, LAST_ACCOUNT, words, i)
-        | crate::outside(0, MOST_ENERGY, reserved)
-        | outside_at(Table::Reservations, columns::RESERVATION_CURTAILED, 0, MOST_ENERGY, words, i)
-        | outside_at(Table::Reservations, columns::RESERVATION_CURTAILED, 0, reserved, words, i)
+    let account = entry(Table::Reservations, RESERVATION_ACCOUNT, words, i);
+    let reserved = entry(Table::Reservations, RESERVATION_RESERVED, words, i);
+    let curtailed = entry(Table::Reservations, RESERVATION_CURTAILED, words, i);
+    outside(1, LAST_ACCOUNT, account)
+        | outside(0, MOST_ENERGY, reserved)
+        | outside(0, MOST_ENERGY, curtailed)
+        | outside(0, reserved, curtailed)
 }
 
 // An entry of row `i` of a table is outside its range, in a month of so many days.

@@ -2,11 +2,17 @@
 ghost use mathlib.Core.Path.{_≡_};
 ghost use Prim.Native.Nat.{_<_};
 ghost use Rattle.tables.specs.declared.Table.the-variants.{Accounts, Loads};
-ghost use Rattle.tables.specs.Shape.{rows, width};
-ghost use Rattle.tables.specs.Columns.{entry};
+ghost use Rattle.tables.specs.Shape.{rows};
 ghost use Rattle.rows.specs.Rows.{notAbove, byFirst, byAccountAndDay, rowAbove, unknown, rowUnlinked, samePair, taken, rowTaken};
 use tables::Table;
-use tables::columns;
+use tables::columns::ACCOUNT_CUSTOMER;
+use tables::columns::ACCOUNT_ZONE;
+use tables::columns::LOAD_ACCOUNT;
+use tables::columns::LOAD_DAY;
+use tables::columns::OWNER_ZONE;
+use tables::columns::RESERVATION_ACCOUNT;
+use tables::columns::UNIT_OWNER;
+use tables::columns::UNIT_ZONE;
 use tables::columns::entry;
 
 // A row's first entry is not above that of the row before.
@@ -30,10 +36,10 @@ fn load_not_above(loads: &[u64], i: usize) -> bool
     if i == 0 {
         return false;
     }
-    let before = entry(Table::Loads, columns::LOAD_ACCOUNT, loads, i - 1);
-    let here = entry(Table::Loads, columns::LOAD_ACCOUNT, loads, i);
-    let day_before = entry(Table::Loads, columns::LOAD_DAY, loads, i - 1);
-    let day = entry(Table::Loads, columns::LOAD_DAY, loads, i);
+    let before = entry(Table::Loads, LOAD_ACCOUNT, loads, i - 1);
+    let here = entry(Table::Loads, LOAD_ACCOUNT, loads, i);
+    let day_before = entry(Table::Loads, LOAD_DAY, loads, i - 1);
+    let day = entry(Table::Loads, LOAD_DAY, loads, i);
     !((before < here) | ((before == here) & (day_before < day)))
 }
 
@@ -63,21 +69,6 @@ fn unknown(table: Table, words: &[u64], x: u64) -> bool
     true
 }
 
-// The entry of row `i` in a column names no row of another table.
-fn unknown_at(
-    named: Table,
-    names: &[u64],
-    table: Table,
-    column: usize,
-    words: &[u64],
-    i: usize,
-) -> bool
-    requires { ⌜ (i < rows table (now words)) × (column < width table) ⌝ }
-    ensures { λ r. ⌜ r ≡ unknown named (now (names .entry)) (entry table column (now (words .entry)) i) ⌝ }
-{
-    unknown(named, names, entry(table, column, words, i))
-}
-
 // A row that an entry of row `i` of a table names does not exist; an account at the border names no zone.
 pub fn row_unlinked(
     table: Table,
@@ -93,27 +84,26 @@ pub fn row_unlinked(
     match table {
         Table::Zones => false,
         Table::Owners => {
-            unknown_at(Table::Zones, zones, Table::Owners, columns::OWNER_ZONE, words, i)
+            let zone = entry(Table::Owners, OWNER_ZONE, words, i);
+            unknown(Table::Zones, zones, zone)
         }
         Table::Units => {
-            unknown_at(Table::Owners, owners, Table::Units, columns::UNIT_OWNER, words, i)
-                | unknown_at(Table::Zones, zones, Table::Units, columns::UNIT_ZONE, words, i)
+            let owner = entry(Table::Units, UNIT_OWNER, words, i);
+            let zone = entry(Table::Units, UNIT_ZONE, words, i);
+            unknown(Table::Owners, owners, owner) | unknown(Table::Zones, zones, zone)
         }
         Table::Accounts => {
-            (entry(Table::Accounts, columns::ACCOUNT_ZONE, words, i) != 0)
-                & unknown_at(Table::Zones, zones, Table::Accounts, columns::ACCOUNT_ZONE, words, i)
+            let zone = entry(Table::Accounts, ACCOUNT_ZONE, words, i);
+            (zone != 0) & unknown(Table::Zones, zones, zone)
         }
         Table::Loads => {
-            unknown_at(Table::Accounts, accounts, Table::Loads, columns::LOAD_ACCOUNT, words, i)
+            let account = entry(Table::Loads, LOAD_ACCOUNT, words, i);
+            unknown(Table::Accounts, accounts, account)
         }
-        Table::Reservations => unknown_at(
-            Table::Accounts,
-            accounts,
-            Table::Reservations,
-            columns::RESERVATION_ACCOUNT,
-            words,
-            i,
-        ),
+        Table::Reservations => {
+            let account = entry(Table::Reservations, RESERVATION_ACCOUNT, words, i);
+            unknown(Table::Accounts, accounts, account)
+        }
     }
 }
 
@@ -122,10 +112,10 @@ fn same_pair(accounts: &[u64], j: usize, i: usize) -> bool
     requires { ⌜ (j < rows Accounts (now accounts)) × (i < rows Accounts (now accounts)) ⌝ }
     ensures { λ r. ⌜ r ≡ samePair (now (accounts .entry)) j i ⌝ }
 {
-    let customer = entry(Table::Accounts, columns::ACCOUNT_CUSTOMER, accounts, j)
-        == entry(Table::Accounts, columns::ACCOUNT_CUSTOMER, accounts, i);
-    let zone = entry(Table::Accounts, columns::ACCOUNT_ZONE, accounts, j)
-        == entry(Table::Accounts, columns::ACCOUNT_ZONE, accounts, i);
+    let customer = entry(Table::Accounts, ACCOUNT_CUSTOMER, accounts, j)
+        == entry(Table::Accounts, ACCOUNT_CUSTOMER, accounts, i);
+    let zone = entry(Table::Accounts, ACCOUNT_ZONE, accounts, j)
+        == entry(Table::Accounts, ACCOUNT_ZONE, accounts, i);
     customer & zone
 }
 
@@ -145,7 +135,7 @@ fn taken(accounts: &[u64], i: usize) -> bool
     false
 }
 
-// Customer and zone of row `i` are taken; a table other than the accounts has neither.
+// An earlier account has the customer and the zone of row `i`; in a table other than the accounts nothing is taken.
 pub fn row_taken(table: Table, words: &[u64], i: usize) -> bool
     requires { ⌜ i < rows table (now words) ⌝ }
     ensures { λ r. ⌜ r ≡ rowTaken table (now (words .entry)) i ⌝ }

@@ -22,7 +22,7 @@ row-number-requires c κs = search needs
 
 returns : tie.Need-returns
 unfolding rowIn
-returns c = 
+returns c =
     simp (
       c .row-number .ensures,
       c .before .row-taken .ensures,

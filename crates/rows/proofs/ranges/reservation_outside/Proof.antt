@@ -8,27 +8,35 @@ use Rattle.rows.proofs.ranges.reservation_outside.Tie as tie
 entry-requires : tie.Need-entry-requires
 entry-requires c κs = search needs
 
-outside-at-requires : tie.Need-outside-at-requires
-outside-at-requires c κs = search needs
+entry-requires-2 : tie.Need-entry-requires-2
+entry-requires-2 c κs = search needs
+
+entry-requires-3 : tie.Need-entry-requires-3
+entry-requires-3 c κs = search needs
 
 outside-requires : tie.Need-outside-requires
 outside-requires c κs = search needs
 
-outside-at-requires-2 : tie.Need-outside-at-requires-2
-outside-at-requires-2 c κs = search needs
+outside-requires-2 : tie.Need-outside-requires-2
+outside-requires-2 c κs = search needs
 
-outside-at-requires-3 : tie.Need-outside-at-requires-3
-outside-at-requires-3 c κs = search needs
+outside-requires-3 : tie.Need-outside-requires-3
+outside-requires-3 c κs = search needs
+
+outside-requires-4 : tie.Need-outside-requires-4
+outside-requires-4 c κs = search needs
 
 returns : tie.Need-returns
 unfolding reservationOutside
-returns c = 
+returns c =
     simp (
-      c .outside-at3 .ensures,
-      c .before .outside-at2 .ensures,
-      c .before .before .outside .ensures,
-      c .before .before .before .outside-at .ensures,
-      c .before .before .before .before .entry .ensures,
+      c .outside4 .ensures,
+      c .before .outside3 .ensures,
+      c .before .before .outside2 .ensures,
+      c .before .before .before .outside .ensures,
+      c .before .before .before .before .entry3 .ensures,
+      c .before .before .before .before .before .entry2 .ensures,
+      c .before .before .before .before .before .before .entry .ensures,
     )
 
 pub reservation-outside-spec : {M : Type 1} → statement M
@@ -36,8 +44,10 @@ reservation-outside-spec =
     tie.close
     (tie.spec
     entry-requires
-    outside-at-requires
+    entry-requires-2
+    entry-requires-3
     outside-requires
-    outside-at-requires-2
-    outside-at-requires-3
+    outside-requires-2
+    outside-requires-3
+    outside-requires-4
     returns)

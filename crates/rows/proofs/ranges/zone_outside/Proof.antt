@@ -5,19 +5,29 @@ use borrow.Author.Needs.{needs}
 use Rattle.rows.proofs.ranges.zone_outside.Statement.{statement}
 use Rattle.rows.proofs.ranges.zone_outside.Tie as tie
 
-outside-at-requires : tie.Need-outside-at-requires
-outside-at-requires c κs = search needs
+entry-requires : tie.Need-entry-requires
+entry-requires c κs = search needs
 
-outside-at-requires-2 : tie.Need-outside-at-requires-2
-outside-at-requires-2 c κs = search needs
+entry-requires-2 : tie.Need-entry-requires-2
+entry-requires-2 c κs = search needs
+
+outside-requires : tie.Need-outside-requires
+outside-requires c κs = search needs
+
+outside-requires-2 : tie.Need-outside-requires-2
+outside-requires-2 c κs = search needs
 
 returns : tie.Need-returns
 unfolding zoneOutside
-returns c = 
+returns c =
     simp (
-      c .outside-at2 .ensures,
-      c .before .outside-at .ensures,
+      c .outside2 .ensures,
+      c .before .outside .ensures,
+      c .before .before .entry2 .ensures,
+      c .before .before .before .entry .ensures,
     )
 
 pub zone-outside-spec : {M : Type 1} → statement M
-zone-outside-spec = tie.close (tie.spec outside-at-requires outside-at-requires-2 returns)
+zone-outside-spec =
+    tie.close
+    (tie.spec entry-requires entry-requires-2 outside-requires outside-requires-2 returns)

@@ -30,7 +30,7 @@ entry-requires-4 : tie.Need-entry-requires-4
 entry-requires-4 c κs = search needs
 
 returns-2 : tie.Need-returns-2
-returns-2 c = 
+returns-2 c =
     (simp (
       c .entry4 .ensures,
       c .before .entry3 .ensures,

@@ -26,7 +26,7 @@ load-not-above-requires : tie.Need-load-not-above-requires
 load-not-above-requires c κs = row-of _ Loads _ _ (told (c .before) (c .if1 .taken)) (c .before .before .before .pre)
 
 returns : tie.Need-returns
-returns c = 
+returns c =
     c .load-not-above .ensures
     ∙ ap (λ k. notAbove (rowAbove k (now (c .before .before .before .before .args .words))) (c .before .before .before .before .args .i)) (sym (told (c .before .before) (c .before .if1 .taken)))
 

@@ -26,7 +26,7 @@ taken-requires : tie.Need-taken-requires
 taken-requires c κs = row-of _ Accounts _ _ (told (c .before) (c .if1 .taken)) (c .before .before .before .pre)
 
 returns : tie.Need-returns
-returns c = 
+returns c =
     c .taken .ensures
     ∙ ap (λ k. rowTaken k (now (c .before .before .before .before .args .words)) (c .before .before .before .before .args .i)) (sym (told (c .before .before) (c .before .if1 .taken)))
 

@@ -17,7 +17,7 @@ entry-requires-4 : tie.Need-entry-requires-4
 entry-requires-4 c κs = search needs
 
 returns : tie.Need-returns
-returns c = 
+returns c =
     simp (
       c .entry4 .ensures,
       c .before .entry3 .ensures,
