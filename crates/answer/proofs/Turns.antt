@@ -11,7 +11,7 @@ use borrow.Author.Tests.{eq-eqb, ne-eqb}
 use Rattle.lists.proofs.Sums.{last-or-below}
 use Rattle.lists.proofs.Ranks.{equal-or-not}
 use Rattle.answer.specs.declared.Answer.{Answer}
-use Rattle.answer.specs.Turns.{look, accepted, refuse, _then_, turns, first}
+use Rattle.answer.specs.Turns.{look, accepted, refusal, refuse, _then_, turns, first}
 
 -- a number is 0 or not
 pub zero-or-not : (n : ℕ) → (n ≡ 0) ⊎ (n ≢ 0)
@@ -38,6 +38,18 @@ pub then-second : (a b : Answer) → a .number ≡ 0 → (a then b) ≡ b
 unfolding _then_
 then-second a b e = rw (eq-eqb (a .number) 0 e)
 
+-- nothing refused so far leaves the answer to what follows
+pub accepted-then : (a : Answer) → (accepted then a) ≡ a
+accepted-then a = then-second accepted a refl
+
+pub then-assoc : (a b c : Answer) → (a then b then c) ≡ (a then (b then c))
+then-assoc a b c =
+    ⊎-elim
+    (λ (z : a .number ≡ 0). ap (λ k. k then c) (then-second a b z) ∙ sym (then-second a (b then c) z))
+    (λ (d : a .number ≢ 0).
+    ap (λ k. k then c) (then-first a b d) ∙ then-first a c d ∙ sym (then-first a (b then c) d))
+    (zero-or-not (a .number))
+
 pub then-none : (a b : Answer) → (a then b) .number ≡ 0 → (a .number ≡ 0) × (b .number ≡ 0)
 then-none a b e =
     ⊎-elim
@@ -49,7 +61,7 @@ pub refuse-none : (n table row : ℕ) → n ≡ 0 → refuse n table row ≡ acc
 unfolding refuse
 refuse-none n table row e = rw (eq-eqb n 0 e)
 
-pub refuse-some : (n table row : ℕ) → n ≢ 0 → refuse n table row ≡ record { number = n; table = table; row = row }
+pub refuse-some : (n table row : ℕ) → n ≢ 0 → refuse n table row ≡ refusal n table row
 unfolding refuse
 refuse-some n table row d = rw (ne-eqb n 0 d)
 
@@ -76,7 +88,7 @@ unfolding turns
 turns-none a zero h = refl
 turns-none a (suc n) h =
     ap (λ (r : Answer). r then a n) (turns-none a n (λ i b. h i (le-step b)))
-    ∙ then-second accepted (a n) refl
+    ∙ accepted-then (a n)
     ∙ h n (lt-suc-self n)
 
 -- where nothing is refused, no answer is a refusal

@@ -14,8 +14,12 @@ abbrev pub accepted : Answer
 accepted = record { number = 0; table = 0; row = 0 }
 
 -- "The answer is number, table, row"
+abbrev pub refusal : ℕ → ℕ → ℕ → Answer
+refusal number table row = record { number = number; table = table; row = row }
+
+-- a refusal where there is a number, and acceptance where the number is 0
 unfoldable pub refuse : ℕ → ℕ → ℕ → Answer
-refuse number table row = cond (eqb number 0) accepted (record { number = number; table = table; row = row })
+refuse number table row = cond (eqb number 0) accepted (refusal number table row)
 
 infixl 20 _then_
 -- the first of two answers that refuses

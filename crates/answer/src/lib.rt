@@ -1,7 +1,8 @@
 // What every call answers: a number, a table and a row, all zero where the call is accepted, and the ten refusals and the
-// tables by name. `specs/` has "the first refusal in turn", which every judgement of rows, tables and divisions is made of.
+// tables by name. Looks are taken in turn, and the first one that finds a fault gives the answer: `look` and `in_turn` are what
+// every judgement of rows, tables and divisions is made of.
 ghost use mathlib.Core.Path.{_≡_};
-ghost use Rattle.answer.specs.Turns.{accepted, refuse, _then_};
+ghost use Rattle.answer.specs.Turns.{look, refuse, _then_};
 
 pub struct Answer {
     pub number: u64,
@@ -76,4 +77,21 @@ pub fn in_turn(first: Answer, second: Answer) -> Answer
         return second;
     }
     first
+}
+
+// A look: its number where the fault is there, else what the next look finds.
+pub fn look(fault: bool, number: u64, next: u64) -> u64
+    ensures { λ r. ⌜ r ≡ look fault number next ⌝ }
+{
+    if fault {
+        return number;
+    }
+    next
+}
+
+// A number at row 0 of a table, behind the answer so far.
+pub fn look_at(before: Answer, number: u64, table: u64) -> Answer
+    ensures { λ r. ⌜ r ≡ (before then refuse number table 0) ⌝ }
+{
+    in_turn(before, refused(number, table, 0))
 }

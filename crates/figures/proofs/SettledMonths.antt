@@ -13,8 +13,9 @@ use Rattle.service.specs.Turn as turn
 use Rattle.month.specs.Months.{isMonth, through, twelfth}
 use Rattle.month.specs.Quantities as month
 use Rattle.tables.specs.Limits.{blackStart, reactive}
-use Rattle.tables.specs.Rows as rows
-use Rattle.tables.specs.Judgement as judgement
+use Rattle.rows.specs.Rows as rows
+use Rattle.tables.specs.Counts as counts
+use Rattle.judgement.specs.Judgement as judgement
 use Rattle.settlement.specs.Input.{Input, inputOf}
 use Rattle.settlement.specs.Accounts.{contributions, reserved, curtailed, accountUse}
 use Rattle.settlement.specs.Network as network
@@ -54,7 +55,7 @@ record Figures : Type 0 where
   B1-nonzone : listed 2 (service.nonzoneSide (services.serviceIn caseB1 reactive)) ≡ (143 ∷ 71 ∷ [])
 
 figures : Figures
-unfolding sumTo largestFirst listed put refuse _then_ first sizeRefusal quotient remainder leftover comesBefore getsCent share shares turns groups.among groups.weightsIn groups.amount groups.amounts groups.refusal groups.groupsInTurn service.zoneUse service.nonzoneUse service.uses service.zoneSide service.nonzoneSide service.zoneShare service.nonzonePot service.nonzoneParts service.nonzoneShare service.serviceCharge turn.splitRefusal turn.shareRefusal turn.nonzoneRefusal turn.zoneTurn turn.serviceInTurn isMonth through twelfth month.useOf month.nearest month.networkCharge any rows.rowNumber rows.notAbove rows.unknown rows.taken rows.zoneOutside rows.zoneRow rows.ownerOutside rows.ownerRow rows.unitOutside rows.unitRow rows.accountOutside rows.accountRow rows.loadOutside rows.loadRow rows.reservationOutside rows.reservationRow judgement.inTurn judgement.counted judgement.roomFor judgement.headJudged judgement.rowsJudged judgement.judged contributions reserved curtailed accountUse network.rateOf network.rate network.networkCharge network.chargesIn network.requirements network.networkCredit network.nonzoneCredit network.nonzoneRefusal services.unitCredit services.partOf services.creditIn services.serviceCredit services.zonePot services.zonePart services.nonzonePart services.serviceCharge networkInTurn divisionsInTurn answerOf chargeOf creditOf chargeWords creditWords
+unfolding sumTo largestFirst listed put refuse _then_ first sizeRefusal quotient remainder leftover comesBefore getsCent share shares turns groups.among groups.weightsIn groups.amount groups.amounts groups.refusal groups.groupsInTurn service.zoneUse service.nonzoneUse service.uses service.zoneSide service.nonzoneSide service.zoneShare service.nonzonePot service.nonzoneParts service.nonzoneShare service.serviceCharge turn.splitRefusal turn.shareRefusal turn.nonzoneRefusal turn.zoneTurn turn.serviceInTurn isMonth through twelfth month.useOf month.nearest month.networkCharge any rows.rowNumber rows.notAbove rows.unknown rows.taken rows.zoneOutside rows.rowIn rows.ownerOutside rows.unitOutside rows.accountOutside rows.loadOutside rows.reservationOutside counts.inTurn counts.counted counts.roomFor judgement.headJudged judgement.rowsJudged judgement.judged contributions reserved curtailed accountUse network.rateOf network.rate network.networkCharge network.chargesIn network.requirements network.networkCredit network.nonzoneCredit network.nonzoneRefusal services.unitCredit services.partOf services.creditIn services.serviceCredit services.zonePot services.zonePart services.nonzonePart services.serviceCharge networkInTurn divisionsInTurn answerOf chargeOf creditOf chargeWords creditWords
 figures =
     record {
       S-charges = refl;

@@ -11,7 +11,7 @@ use Rattle.answer.specs.Turns.{look}
 use Rattle.division.specs.Limits.{divideRefusal}
 use Rattle.division.specs.Shares.{shares}
 use Rattle.verdict.specs.Check.{verdict, numberOf, valueOf}
-use Rattle.tables.specs.Judgement.{roomFor}
+use Rattle.tables.specs.Counts.{roomFor}
 use Rattle.text.specs.Places as places
 use Rattle.statement_text.specs.Statement.{statementOf}
 use Rattle.statement_text.specs.Calls.{fitting}

@@ -1,4 +1,4 @@
-// A line of the program: the name of a judgement, a colon, and what `tables::judge` answers, its number, table and row.
+// A line of the program: the name of a judgement, a colon, and what `judgement::judge` answers, its number, table and row.
 use answer::Answer;
 
 fn text(bytes: &[u8]) {
@@ -33,7 +33,7 @@ pub(crate) fn judge_line(
     charges: usize,
     credits: usize,
 ) {
-    let answer = tables::judge(
+    let answer = judgement::judge(
         month,
         days,
         nonzone,

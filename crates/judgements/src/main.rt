@@ -1,5 +1,5 @@
 // Judgements of a month's input, run on the crate that gives them and written out, a line each: its name, a colon, and the
-// number, the table and the row that `tables::judge` answers. Each refusal that a table can give stands at a first, a middle and
+// number, the table and the row that `judgement::judge` answers. Each refusal that a table can give stands at a first, a middle and
 // a last row, each limit on both its sides, and of two defects at once the one that comes first. The file `stdout` beside `src/` has
 // what must come by the paper, and the gate holds one to the other.
 mod accounts;

@@ -12,13 +12,11 @@ use lib.Seq.{take-append-seam}
 use borrow.Author.Tests.{eq-eqb, ne-eqb}
 use Rattle.answer.specs.declared.Answer.{Answer}
 use Rattle.answer.specs.Numbers.{COUNT, ROOM, TEXT, head}
-use Rattle.answer.specs.Turns.{accepted}
+use Rattle.answer.specs.Turns.{accepted, refusal}
 use Rattle.tables.specs.declared.Table.{Table}
 use Rattle.tables.specs.declared.Table.the-variants.{Zones, Owners, Units, Accounts, Loads, Reservations}
 use Rattle.tables.specs.Shape.{number, width, limit, rows, Tables, wordsOf}
-use Rattle.tables.specs.Good.{Counted}
-use Rattle.tables.specs.Refused.{refusal}
-use Rattle.tables.specs.Judgement.{counted, roomFor}
+use Rattle.tables.specs.Counts.{Counted, counted, roomFor}
 use Rattle.tables.proofs.Tests.{reworded, both, equal, at-least}
 use Rattle.tables.proofs.Stages.{Stage, passed, stopped, passed-on, then-stage, look-stage, in-turn-stage}
 use Rattle.text.specs.Numbers.{Below}

@@ -14,7 +14,7 @@ use Rattle.answer.specs.declared.Answer.{Answer}
 use Rattle.answer.specs.Numbers as numbers
 use Rattle.answer.specs.Turns.{accepted, refuse}
 use Rattle.answer.proofs.Turns.{refuse-number}
-use Rattle.tables.specs.Shape.{limit, number}
+use Rattle.tables.specs.Shape.{limit, number, tableAt}
 use Rattle.tables.specs.declared.Table.the-variants.{Reservations}
 use Rattle.text.specs.Bytes.{bytes}
 use Rattle.text.specs.Numbers.{found}
@@ -25,7 +25,7 @@ use Rattle.text.proofs.Places.{drop-next, drop-end}
 use Rattle.text.proofs.Stores.{stored-none, stored-one, stored-append, stored-is}
 use Rattle.monthfile.specs.declared.row.Counted.{Counted}
 use Rattle.monthfile.specs.declared.judge.Walk.{Walk}
-use Rattle.monthfile.specs.Form.{Kind, Form, kindOf, monthForm, tableAt, headAt}
+use Rattle.monthfile.specs.Form.{Kind, Form, kindOf, monthForm, headAt}
 use Rattle.monthfile.specs.Reading.{Outcome, got, refused, onward, unfit, Rows, heads, tables, Contents, rowsIn, closed, ending, reading}
 use Rattle.monthfile.specs.Walks.{CountedAt, OneTaken, Walked, Ended, countsOf}
 use Rattle.monthfile.proofs.Forms.{heads-none, heads-on, heads-stop, tables-none, tables-on, tables-over, readOf, tableOf, ending-stop, ending-other, ending-on}

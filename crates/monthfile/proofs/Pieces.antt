@@ -15,7 +15,7 @@ use Rattle.answer.proofs.Turns.{then-first, then-second, refuse-none, refuse-nu
 use Rattle.tables.specs.declared.Table.{Table}
 use Rattle.tables.specs.declared.Table.the-variants.{Zones, Owners, Units, Accounts, Loads, Reservations}
 use Rattle.tables.specs.Shape.{width, Tables, wordsOf}
-use Rattle.tables.specs.Judgement.{inTurn, counted, roomFor}
+use Rattle.tables.specs.Counts.{inTurn, counted, roomFor}
 use Rattle.text.specs.Bytes.{bytes}
 use Rattle.text.specs.Lines.{lineText}
 use Rattle.text.specs.Places.{Put, Sized, stored}

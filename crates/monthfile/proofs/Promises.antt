@@ -10,7 +10,7 @@ use lib.ListN.{length, take}
 use Rattle.answer.specs.Turns.{accepted}
 use Rattle.tables.specs.declared.Table.{Table}
 use Rattle.tables.specs.Shape.{Tables, wordsOf}
-use Rattle.tables.specs.Good.{Counted}
+use Rattle.tables.specs.Counts.{Counted}
 use Rattle.text.specs.Numbers.{Below}
 use Rattle.monthfile.specs.declared.Reading.{Reading}
 use Rattle.monthfile.specs.declared.Written.{Written}

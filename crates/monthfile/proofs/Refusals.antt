@@ -11,12 +11,11 @@ use lib.ListN.{length}
 use Rattle.lists.specs.Sums.{at}
 use Rattle.answer.specs.declared.Answer.{Answer}
 use Rattle.answer.specs.Numbers.{COUNT, TEXT, head}
-use Rattle.answer.specs.Turns.{refuse}
+use Rattle.answer.specs.Turns.{refuse, refusal}
 use Rattle.answer.proofs.Turns.{refuse-some}
 use Rattle.tables.specs.declared.Table.{Table}
 use Rattle.tables.specs.declared.Table.the-variants.{Zones, Owners, Units, Accounts, Loads, Reservations}
 use Rattle.tables.specs.Shape.{number, limit}
-use Rattle.tables.specs.Refused.{refusal}
 use Rattle.text.specs.Numbers.{Found, found, missing}
 use Rattle.text.specs.Lines.{line}
 use Rattle.monthfile.specs.Form.{Kind, Form, monthForm}

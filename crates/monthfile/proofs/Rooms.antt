@@ -15,7 +15,7 @@ use Rattle.answer.proofs.Turns.{refuse-number, then-none}
 use Rattle.tables.specs.declared.Table.{Table}
 use Rattle.tables.specs.declared.Table.the-variants.{Zones, Owners, Units, Accounts, Loads, Reservations}
 use Rattle.tables.specs.Shape.{number, width, limit, Tables, wordsOf}
-use Rattle.tables.specs.Judgement.{inTurn, roomFor}
+use Rattle.tables.specs.Counts.{inTurn, roomFor}
 use Rattle.text.proofs.Stores.{stored-none}
 use Rattle.monthfile.specs.declared.Reading.{Reading}
 use Rattle.monthfile.specs.Form.{monthForm}

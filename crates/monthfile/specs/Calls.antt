@@ -13,7 +13,7 @@ use Rattle.answer.specs.Turns.{accepted, _then_}
 use Rattle.tables.specs.declared.Table.{Table}
 use Rattle.tables.specs.declared.Table.the-variants.{Zones, Owners, Units, Accounts, Loads, Reservations}
 use Rattle.tables.specs.Shape.{number, width, limit, Tables, wordsOf}
-use Rattle.tables.specs.Judgement.{inTurn, counted, roomFor}
+use Rattle.tables.specs.Counts.{inTurn, counted, roomFor}
 use Rattle.text.specs.Places.{stored}
 use Rattle.monthfile.specs.declared.Reading.{Reading}
 use Rattle.monthfile.specs.declared.Written.{Written}

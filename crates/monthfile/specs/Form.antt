@@ -43,15 +43,7 @@ monthForm =
       last = bytes "end";
     }
 
--- the kinds and the first lines by their place
-abbrev pub tableAt : ℕ → Table
-tableAt zero = Zones
-tableAt (suc zero) = Owners
-tableAt (suc (suc zero)) = Units
-tableAt (suc (suc (suc zero))) = Accounts
-tableAt (suc (suc (suc (suc zero)))) = Loads
-tableAt (suc (suc (suc (suc (suc k))))) = Reservations
-
+-- the first lines by their place
 abbrev pub headAt : ℕ → List ℕ
 headAt zero = bytes "month"
 headAt (suc zero) = bytes "days"

@@ -8,8 +8,8 @@ use Rattle.answer.specs.declared.Answer.{Answer}
 use Rattle.answer.specs.Numbers.{COUNT, ROOM, TEXT, head}
 use Rattle.tables.specs.declared.Table.{Table}
 use Rattle.tables.specs.Shape.{number, width, limit, Tables, wordsOf}
-use Rattle.tables.specs.Good.{Counted}
-use Rattle.tables.specs.Refused.{refusal}
+use Rattle.tables.specs.Counts.{Counted}
+use Rattle.answer.specs.Turns.{refusal}
 use Rattle.monthfile.specs.Form.{monthForm}
 use Rattle.monthfile.specs.Reading.{Contents}
 use Rattle.monthfile.specs.Writing.{fileText}

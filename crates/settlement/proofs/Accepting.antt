@@ -12,8 +12,8 @@ use Rattle.groups.proofs.Laws.{accepted-all, all-accepted}
 use Rattle.service.specs.Turn as service
 use Rattle.service.proofs.Turns.{accepted-fine, fine-accepted}
 use Rattle.tables.specs.Limits.{blackStart, reactive}
-use Rattle.tables.specs.Judgement.{judged}
-use Rattle.tables.proofs.Judging.{judged-good, good-unrefused}
+use Rattle.judgement.specs.Judgement.{judged}
+use Rattle.judgement.proofs.Judging.{judged-good, good-unrefused}
 use Rattle.settlement.specs.Input.{Input, zoneCount}
 use Rattle.settlement.specs.Network.{networkPots, nonzoneRefusal}
 use Rattle.settlement.specs.Services.{serviceIn}

@@ -14,7 +14,7 @@ use Rattle.answer.proofs.Turns.{zero-or-not}
 use Rattle.tables.specs.declared.Table.the-variants.{Zones, Owners, Units, Accounts}
 use Rattle.tables.specs.Shape.{Tables}
 use Rattle.tables.specs.Columns.{zoneNumber, ownerNumber, unitOwner, unitZone, accountZone}
-use Rattle.tables.specs.Good.{Known}
+use Rattle.judgement.specs.Good.{Known}
 use Rattle.settlement.specs.Input.{Input, zoneCount, ownerCount, unitCount, accountCount}
 use Rattle.settlement.specs.Network.{networkCharge, chargesIn}
 use Rattle.settlement.specs.Services.{partOf, creditIn, serviceCredit, zonePot}

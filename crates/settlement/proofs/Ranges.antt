@@ -15,8 +15,8 @@ use Rattle.tables.specs.declared.Table.{Table}
 use Rattle.tables.specs.declared.Table.the-variants.{Zones, Owners, Units, Accounts, Loads, Reservations}
 use Rattle.tables.specs.Shape.{rows, width, limit, Tables, wordsOf}
 use Rattle.tables.specs.Columns.{entry, zoneNumber, zoneRate, ownerNumber, unitRequirement, accountNumber, accountZone, loadAccount, loadDay, loadContribution, reservationAccount, reservationReserved, reservationCurtailed}
-use Rattle.tables.specs.Good.{Above}
-use Rattle.tables.proofs.Promises.{strictly-ascend}
+use Rattle.judgement.specs.Good.{Above}
+use Rattle.judgement.proofs.Promises.{strictly-ascend}
 use Rattle.month.specs.Limits.{mostRate, mostLoad, mostEnergy, mostContributions}
 use Rattle.month.proofs.Months.{InYear, month-within, twelfth-within}
 use Rattle.month.proofs.Quantities as quantities

@@ -24,9 +24,9 @@ use Rattle.service.proofs.Turns.{accepted-fine}
 use Rattle.service.proofs.Promises.{refused-where}
 use Rattle.tables.specs.Shape.{chargeWidth, creditWidth}
 use Rattle.tables.specs.Limits.{blackStart, reactive}
-use Rattle.tables.specs.Judgement.{judged}
-use Rattle.tables.proofs.Judging.{judged-good}
-use Rattle.tables.proofs.Promises as tables
+use Rattle.judgement.specs.Judgement.{judged}
+use Rattle.judgement.proofs.Judging.{judged-good}
+use Rattle.judgement.proofs.Promises as judgement
 use Rattle.settlement.specs.Input.{Input, zoneCount, ownerCount, accountCount}
 use Rattle.settlement.specs.Network.{networkPots, nonzoneRefusal}
 use Rattle.settlement.specs.Services.{serviceIn}
@@ -120,7 +120,7 @@ module _ (m : Input) (lentCharges lentCredits : ℕ) where
       (λ e. bad (ap (λ (a : Answer). a .number) all ∙ e))))
       (λ (d : tables-answer .number ≢ 0).
       subst (Refused m lentCharges lentCredits) (sym (then-first tables-answer (divisionsInTurn m) d))
-      (by-tables (tables.refused-why (m .month) (m .days) (m .nonzone) (m .tables) lentCharges lentCredits d)))
+      (by-tables (judgement.refused-why (m .month) (m .days) (m .nonzone) (m .tables) lentCharges lentCredits d)))
       (zero-or-not (tables-answer .number))
 
 pub places : (m : Input) → Places m

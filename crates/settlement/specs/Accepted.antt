@@ -6,7 +6,7 @@ use Prim.Native.Nat.{ℕ, _<_}
 use Rattle.groups.specs.Groups.{refusal}
 use Rattle.service.specs.Turn as service
 use Rattle.tables.specs.Limits.{blackStart, reactive}
-use Rattle.tables.specs.Good.{GoodMonth}
+use Rattle.judgement.specs.Good.{GoodMonth}
 use Rattle.settlement.specs.Input.{Input, zoneCount}
 use Rattle.settlement.specs.Network.{networkPots, nonzoneRefusal}
 use Rattle.settlement.specs.Services.{serviceIn}

@@ -8,7 +8,7 @@ use Rattle.answer.specs.Numbers.{divisions}
 use Rattle.groups.specs.Groups.{refusal}
 use Rattle.service.specs.Turn as service
 use Rattle.tables.specs.Limits.{blackStart, reactive}
-use Rattle.tables.specs.Refused as tables
+use Rattle.judgement.specs.Refused as judgement
 use Rattle.settlement.specs.Input.{Input, zoneCount}
 use Rattle.settlement.specs.Network.{networkPots, nonzoneRefusal}
 use Rattle.settlement.specs.Services.{serviceIn}
@@ -27,7 +27,7 @@ pub record NetworkFine (m : Input) : Type 0 where
 module _ (m : Input) (lentCharges lentCredits : ℕ) where
   pub data Refused (r : Answer) : Type 0 where
     -- an input that the tables' rules refuse
-    by-tables : tables.Refused (m .month) (m .days) (m .nonzone) (m .tables) lentCharges lentCredits r → Refused r
+    by-tables : judgement.Refused (m .month) (m .days) (m .nonzone) (m .tables) lentCharges lentCredits r → Refused r
     -- "network zones 0..k-1"
     at-zone : Good m lentCharges lentCredits → (z : ℕ) → z < zoneCount m → ZonesFine m z → refusal (networkPots m) z ≢ 0
         → r ≡ record { number = refusal (networkPots m) z; table = divisions; row = z } → Refused r

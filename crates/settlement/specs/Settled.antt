@@ -14,7 +14,7 @@ use Rattle.groups.specs.Groups as groups
 use Rattle.service.specs.Turn as service
 use Rattle.tables.specs.Shape.{chargeWidth, creditWidth}
 use Rattle.tables.specs.Limits.{blackStart, reactive}
-use Rattle.tables.specs.Judgement.{judged}
+use Rattle.judgement.specs.Judgement.{judged}
 use Rattle.settlement.specs.Input.{Input, zoneCount, ownerCount, accountCount}
 use Rattle.settlement.specs.Network.{networkCharge, networkPots, networkCredit, nonzoneCredit, nonzoneRefusal}
 use Rattle.settlement.specs.Services.{serviceIn, serviceCharge, serviceCredit}

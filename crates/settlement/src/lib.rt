@@ -145,7 +145,7 @@ fn settle_good(
     answer
 }
 
-// Settles a month. Answers what `tables::judge` answers where that refuses; then the first division that is refused, with BIG or
+// Settles a month. Answers what `judgement::judge` answers where that refuses; then the first division that is refused, with BIG or
 // BASE, as table 9 with its place as row: with k zones, network zones 0 to k - 1, network non-zone k, then black start and
 // reactive, each zone's split and share in turn and last its non-zone pot. A refusal writes nothing. Acceptance is 0, 0, 0, and
 // writes each account's charges (network, black start, reactive) to the first words of `charges`, row by row, and each owner's
@@ -165,7 +165,7 @@ pub fn settle(
 ) -> Answer
     ensures { λ r. ⌜ Settled (inputOf month days nonzone (now (zones .entry)) (now (owners .entry)) (now (units .entry)) (now (accounts .entry)) (now (loads .entry)) (now (reservations .entry))) (now (charges .entry)) (now (charges .exit)) (now (credits .entry)) (now (credits .exit)) r ⌝ }
 {
-    let judged = tables::judge(
+    let judged = judgement::judge(
         month,
         days,
         nonzone,

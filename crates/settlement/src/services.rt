@@ -16,20 +16,21 @@ use crate::columns;
 use answer::Answer;
 use month::Month;
 use tables::Table;
-use tables::columns::account_zone;
-use tables::columns::unit_requirement;
-use tables::columns::unit_reserve;
-use tables::columns::unit_service;
+use tables::columns::ACCOUNT_ZONE;
+use tables::columns::UNIT_REQUIREMENT;
+use tables::columns::UNIT_RESERVE;
+use tables::columns::UNIT_SERVICE;
+use tables::columns::entry;
 
 // The credit of a unit, where it is one of a service, else 0.
 fn credit_of(service: u64, month: Month, units: &[u64], i: usize) -> u64
     requires { ⌜ Creditable (unitsInput (month .number) [] [] (now units)) × (i < rows Units (now units)) ⌝ }
     ensures { λ r. ⌜ r ≡ creditIn (unitsInput (month .number) [] [] (now (units .entry))) service i ⌝ }
 {
-    let twelfth = month.twelfth(unit_requirement(units, i));
-    let reserve = unit_reserve(units, i);
+    let twelfth = month.twelfth(entry(Table::Units, UNIT_REQUIREMENT, units, i));
+    let reserve = entry(Table::Units, UNIT_RESERVE, units, i);
     let credit = twelfth + reserve;
-    columns::when_same(unit_service(units, i), service, credit)
+    columns::when_same(entry(Table::Units, UNIT_SERVICE, units, i), service, credit)
 }
 
 // Writes each unit's credit in a service.
@@ -99,7 +100,7 @@ fn fill_parts(accounts: &[u64], uses: &[u64], zoneparts: &mut [u64], nonzonepart
     let count = tables::rows_in(Table::Accounts, accounts.len());
     let mut i = 0;
     while i < count {
-        let zone = account_zone(accounts, i);
+        let zone = entry(Table::Accounts, ACCOUNT_ZONE, accounts, i);
         zoneparts[i] = zone_part(zone, uses[i]);
         nonzoneparts[i] = columns::when_same(zone, 0, uses[i]);
         i += 1;

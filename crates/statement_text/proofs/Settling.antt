@@ -18,7 +18,7 @@ use Rattle.answer.proofs.Turns.{then-second, refuse-none}
 use Rattle.tables.specs.declared.Table.{Table}
 use Rattle.tables.specs.declared.Table.the-variants.{Zones, Owners, Units, Accounts, Loads, Reservations}
 use Rattle.tables.specs.Shape.{number, width, limit, chargeWidth, creditWidth, Tables, wordsOf}
-use Rattle.tables.specs.Judgement.{inTurn}
+use Rattle.tables.specs.Counts.{inTurn}
 use Rattle.tables.proofs.Places.{width-pos}
 use Rattle.text.specs.Places.{stored}
 use Rattle.text.proofs.Stores.{stored-is, length-stored}

@@ -7,7 +7,7 @@ use Prim.Native.Nat.{ℕ}
 use lib.Dec.{ltb}
 use lib.ListN.{length}
 use Rattle.answer.specs.Numbers.{head}
-use Rattle.tables.specs.Judgement.{roomFor}
+use Rattle.tables.specs.Counts.{roomFor}
 use Rattle.text.specs.Places.{stored}
 use Rattle.statement_text.specs.declared.Shown.{Shown}
 

@@ -3,17 +3,16 @@
 use mathlib.Core.Path.{_≡_, refl, sym, ap, subst, _∙_}
 use mathlib.Core.Logic.{⊎-elim, _≢_}
 use mathlib.Core.Bool.{Bool, true, false}
-use Prim.Native.Nat.{ℕ, zero, suc, _<_}
+use Prim.Native.Nat.{ℕ, suc, _-_, _<_}
 use native.Mathlib.Omega.{arith}
 use Rattle.lists.proofs.Sums.{last-or-below}
 use Rattle.answer.specs.declared.Answer.{Answer}
-use Rattle.answer.specs.Turns.{look, accepted, refuse, _then_}
+use Rattle.answer.specs.Turns.{look, accepted, refuse, _then_, refusal}
 use Rattle.answer.proofs.Turns.{zero-or-not, then-first, then-second, refuse-none, refuse-some, refuse-number}
 use Rattle.tables.specs.declared.Table.{Table}
 use Rattle.tables.specs.declared.Table.the-variants.{Zones, Owners, Units, Accounts, Loads, Reservations}
-use Rattle.tables.specs.Shape.{number}
-use Rattle.tables.specs.Judgement.{inTurn}
-use Rattle.tables.specs.Refused.{refusal}
+use Rattle.tables.specs.Shape.{number, tableAt}
+use Rattle.tables.specs.Counts.{inTurn}
 use Rattle.tables.proofs.Tests.{Tests, breaks}
 
 pub data Stage (Good : Type 0) (Bad : Answer → Type 0) (a : Answer) : Type 0 where
@@ -46,17 +45,7 @@ look-stage {fault = true} n table row d test bad = refuse-stage n table row (λ 
 look-stage {fault = false} n table row d test bad = refuse-stage 0 table row (λ z. test .holds refl) (λ e. absurd (e refl))
 
 -- a table is known by its number
-tableAt : ℕ → Table
-tableAt zero = Zones
-tableAt (suc zero) = Zones
-tableAt (suc (suc zero)) = Owners
-tableAt (suc (suc (suc zero))) = Units
-tableAt (suc (suc (suc (suc zero)))) = Accounts
-tableAt (suc (suc (suc (suc (suc zero))))) = Loads
-tableAt (suc (suc (suc (suc (suc (suc n)))))) = Reservations
-
-at-number : (table : Table) → tableAt (number table) ≡ table
-unfolding tableAt
+at-number : (table : Table) → tableAt (number table - 1) ≡ table
 at-number Zones = refl
 at-number Owners = refl
 at-number Units = refl
@@ -64,8 +53,8 @@ at-number Accounts = refl
 at-number Loads = refl
 at-number Reservations = refl
 
-same-number : (a b : Table) → number a ≡ number b → a ≡ b
-same-number a b e = sym (at-number a) ∙ ap tableAt e ∙ at-number b
+pub same-number : (a b : Table) → number a ≡ number b → a ≡ b
+same-number a b e = sym (at-number a) ∙ ap (λ n. tableAt (n - 1)) e ∙ at-number b
 
 from-one : (table : Table) → 0 < number table
 from-one Zones = omega arith

@@ -8,9 +8,9 @@ use Rattle.answer.specs.declared.Answer.{Answer}
 use Rattle.answer.specs.Turns.{_then_}
 use Rattle.tables.specs.declared.Table.{Table}
 use Rattle.tables.specs.declared.Table.the-variants.{Zones, Owners, Units, Accounts, Loads, Reservations}
-use Rattle.tables.specs.Shape.{number, width, limit, Tables}
+use Rattle.tables.specs.Shape.{number, width, limit}
 use Rattle.tables.specs.Columns.{entry}
-use Rattle.tables.specs.Judgement.{counted, judged}
+use Rattle.tables.specs.Counts.{counted}
 
 pub number-unique : (table : Table) (r s : ℕ) → r ≡ number table → s ≡ number table → r ≡ s
 number-unique table r s = one-answer _ r s
@@ -24,12 +24,8 @@ limit-unique table r s = one-answer _ r s
 pub rows-in-unique : (table : Table) (words r s : ℕ) → r ≡ words / width table → s ≡ words / width table → r ≡ s
 rows-in-unique table words r s = one-answer _ r s
 
--- of `entry`, and of every column by name, which is `entry` at its table and its place
 pub entry-unique : (table : Table) (column : ℕ) (words : List ℕ) (i r s : ℕ) → r ≡ entry table column words i → s ≡ entry table column words i → r ≡ s
 entry-unique table column words i r s = one-answer _ r s
 
 pub judge-counts-unique : (zones owners units accounts loads reservations : ℕ) (r s : Answer) → r ≡ (counted Zones zones then counted Owners owners then counted Units units then counted Accounts accounts then counted Loads loads then counted Reservations reservations) → s ≡ (counted Zones zones then counted Owners owners then counted Units units then counted Accounts accounts then counted Loads loads then counted Reservations reservations) → r ≡ s
 judge-counts-unique zones owners units accounts loads reservations r s = one-answer _ r s
-
-pub judge-unique : (month days nonzone : ℕ) (t : Tables) (charges credits : ℕ) (r s : Answer) → r ≡ judged month days nonzone t charges credits → s ≡ judged month days nonzone t charges credits → r ≡ s
-judge-unique month days nonzone t charges credits r s = one-answer _ r s

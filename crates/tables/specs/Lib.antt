@@ -1,7 +1,4 @@
 pub mod Shape
 pub mod Columns
 pub mod Limits
-pub mod Rows
-pub mod Judgement
-pub mod Good
-pub mod Refused
+pub mod Counts

@@ -1,6 +1,6 @@
 -- The paper's list of tables 1 to 6: each one's number, how many entries a row has, how many rows there may be.
 -- Assumes nothing.
-use Prim.Native.Nat.{ℕ, _/_}
+use Prim.Native.Nat.{ℕ, zero, suc, _/_}
 use mathlib.Core.List.{List}
 use lib.ListN.{length}
 use Rattle.answer.specs.Numbers as tables
@@ -15,6 +15,15 @@ number Units = tables.units
 number Accounts = tables.accounts
 number Loads = tables.loads
 number Reservations = tables.reservations
+
+-- tables 1 to 6 by their place, which starts at 0
+abbrev pub tableAt : ℕ → Table
+tableAt zero = Zones
+tableAt (suc zero) = Owners
+tableAt (suc (suc zero)) = Units
+tableAt (suc (suc (suc zero))) = Accounts
+tableAt (suc (suc (suc (suc zero)))) = Loads
+tableAt (suc (suc (suc (suc (suc k))))) = Reservations
 
 -- how many entries a row has
 abbrev pub width : Table → ℕ

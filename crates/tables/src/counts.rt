@@ -2,9 +2,8 @@
 ghost use mathlib.Core.Path.{_≡_};
 ghost use Rattle.answer.specs.Turns.{_then_};
 ghost use Rattle.tables.specs.declared.Table.the-variants.{Zones, Owners, Units, Accounts, Loads, Reservations};
-ghost use Rattle.tables.specs.Judgement.{counted};
+ghost use Rattle.tables.specs.Counts.{counted};
 use crate::Table;
-use crate::rules;
 use answer::Answer;
 
 // COUNT: a table that is not whole rows, or has more than it may.
@@ -13,8 +12,8 @@ fn judge_count(before: Answer, table: Table, words: usize) -> Answer
 {
     let torn = words % crate::width(table) != 0;
     let over = crate::limit(table) < crate::rows_in(table, words);
-    let count = rules::look(torn | over, answer::COUNT, answer::ACCEPTED);
-    rules::look_at(before, count, crate::number(table))
+    let count = answer::look(torn | over, answer::COUNT, answer::ACCEPTED);
+    answer::look_at(before, count, crate::number(table))
 }
 
 // COUNT for tables 1 to 6, each of so many words.

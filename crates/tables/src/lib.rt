@@ -1,17 +1,12 @@
-// The shape of a month's tables 1 to 6, and the judgement of a month's input: whole rows and limits, room in the lent outputs, the
-// head, then every table row by row, until the first refusal. A table is named by a `Table`; its rows lie end to end in one
-// slice of words, and `columns` has each entry of a row by name.
+// The shape of a month's tables 1 to 6: the number of each, how many entries its rows have, how many rows it may have, and the
+// limits of what stands in them. A table is named by a `Table`; its rows lie end to end in one slice of words. `columns` has
+// each entry of a row by name, and `counts` judges whether tables are whole rows and no more than they may have.
 ghost use mathlib.Core.Path.{_≡_};
 ghost use Prim.Native.Nat.{_/_};
-ghost use Rattle.tables.specs.Shape.{number, width, limit, tablesOf};
-ghost use Rattle.tables.specs.Judgement.{judged};
-use answer::Answer;
+ghost use Rattle.tables.specs.Shape.{number, width, limit};
 
 pub mod columns;
 pub mod counts;
-mod rows;
-mod rules;
-mod turns;
 
 // One of tables 1 to 6.
 pub enum Table {
@@ -128,44 +123,4 @@ pub fn rows_in(table: Table, words: usize) -> usize
     ensures { λ r. ⌜ r ≡ words / width table ⌝ }
 {
     words / width(table)
-}
-
-// The answer to a month's input: COUNT for tables 1 to 6, ROOM for the outputs, whose lengths in words `charges` and `credits` are,
-// MONTH, the non-zone rate's RANGE, then tables 1 to 6 row by row, in a row RANGE, ORDER, LINK, PAIR. The first refusal is
-// the answer; acceptance is 0, 0, 0. Any input is judged, and nothing of it is changed.
-pub fn judge(
-    month: u64,
-    days: u64,
-    nonzone: u64,
-    zones: &[u64],
-    owners: &[u64],
-    units: &[u64],
-    accounts: &[u64],
-    loads: &[u64],
-    reservations: &[u64],
-    charges: usize,
-    credits: usize,
-) -> Answer
-    ensures { λ r. ⌜ r ≡ judged month days nonzone (tablesOf (now (zones .entry)) (now (owners .entry)) (now (units .entry)) (now (accounts .entry)) (now (loads .entry)) (now (reservations .entry))) charges credits ⌝ }
-{
-    let counts = counts::judge_counts(
-        zones.len(),
-        owners.len(),
-        units.len(),
-        accounts.len(),
-        loads.len(),
-        reservations.len(),
-    );
-    let room = turns::judge_room(counts, owners.len(), accounts.len(), charges, credits);
-    let head = turns::judge_head(room, month, days, nonzone);
-    turns::judge_tables(
-        head,
-        days,
-        zones,
-        owners,
-        units,
-        accounts,
-        loads,
-        reservations,
-    )
 }

@@ -4,7 +4,7 @@ use mathlib.Core.Path.{sym, ap, _∙_}
 use lib.ListN.{length}
 use borrow.Author.Needs.{needs}
 use Rattle.answer.specs.declared.Answer.{Answer}
-use Rattle.tables.proofs.Judging.{judged-good}
+use Rattle.judgement.proofs.Judging.{judged-good}
 use Rattle.settlement.specs.Input.{Input, inputOf}
 use Rattle.settlement.specs.Accepted.{Good}
 use Rattle.settlement.proofs.Ranges.{settleable}

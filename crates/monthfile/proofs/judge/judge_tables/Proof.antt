@@ -4,8 +4,8 @@ use native.Mathlib.Omega.{arith}
 use lib.ListN.{length, drop, length-set}
 use mathlib.Core.Path.{subst, ap₂}
 use Rattle.answer.specs.Turns.{refuse}
-use Rattle.tables.specs.Shape.{number, width, limit}
-use Rattle.monthfile.specs.Form.{key, monthForm, tableAt}
+use Rattle.tables.specs.Shape.{number, width, limit, tableAt}
+use Rattle.monthfile.specs.Form.{key, monthForm}
 use Rattle.monthfile.specs.Reading.{rows, tables}
 use Rattle.monthfile.specs.Walks.{CountedAt, countsOf}
 use Rattle.monthfile.proofs.LineWalks.{Walking, walk-start, counts-more, table-stop, table-next, table-end}

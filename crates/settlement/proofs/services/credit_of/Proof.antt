@@ -12,17 +12,17 @@ use borrow.Author.Needs.{needs}
 use Rattle.settlement.proofs.services.credit_of.Statement.{statement}
 use Rattle.settlement.proofs.services.credit_of.Tie as tie
 
-unit-requirement-requires : tie.Need-unit-requirement-requires
-unit-requirement-requires c κs = c .before .pre .1
+entry-requires : tie.Need-entry-requires
+entry-requires c κs = (c .before .pre .1, omega arith)
 
 twelfth-requires : tie.Need-twelfth-requires
 twelfth-requires c κs =
     let start = c .before .before in
     let can = start .pre .0 in
-    omega (arith, can .first-month, can .last-month, can .requirement-within (start .args .i) (start .pre .1), c .unit-requirement .ensures)
+    omega (arith, can .first-month, can .last-month, can .requirement-within (start .args .i) (start .pre .1), c .entry .ensures)
 
-unit-reserve-requires : tie.Need-unit-reserve-requires
-unit-reserve-requires c κs = c .before .before .before .pre .1
+entry-requires-2 : tie.Need-entry-requires-2
+entry-requires-2 c κs = (c .before .before .before .pre .1, omega arith)
 
 add-credit : tie.Need-add-credit
 add-credit c =
@@ -32,17 +32,17 @@ add-credit c =
       fits =
           omega (
             arith,
-            twelfth-within (start .args .month .number) (c .before .before .unit-requirement .result) (can .last-month),
+            twelfth-within (start .args .month .number) (c .before .before .entry .result) (can .last-month),
             can .requirement-within (start .args .i) (start .pre .1),
             can .reserve-within (start .args .i) (start .pre .1),
-            c .before .before .unit-requirement .ensures,
+            c .before .before .entry .ensures,
             c .before .twelfth .ensures,
-            c .unit-reserve .ensures,
+            c .entry2 .ensures,
           );
     }
 
-unit-service-requires : tie.Need-unit-service-requires
-unit-service-requires c κs = c .before .before .before .before .pre .1
+entry-requires-3 : tie.Need-entry-requires-3
+entry-requires-3 c κs = (c .before .before .before .before .pre .1, omega arith)
 
 when-same-requires : tie.Need-when-same-requires
 when-same-requires c κs = search needs
@@ -52,17 +52,17 @@ unfolding creditIn unitCredit
 returns c =
     let a = c .before .before .before .before .before .before .args in
     c .when-same .ensures
-    ∙ ap₂ (λ (s x : ℕ). when (eqb s (a .service)) x) (c .before .unit-service .ensures)
-    (ap₂ _+_ (c .before .before .before .twelfth .ensures ∙ ap (twelfth (a .month .number)) (c .before .before .before .before .unit-requirement .ensures)) (c .before .before .unit-reserve .ensures))
+    ∙ ap₂ (λ (s x : ℕ). when (eqb s (a .service)) x) (c .before .entry3 .ensures)
+    (ap₂ _+_ (c .before .before .before .twelfth .ensures ∙ ap (twelfth (a .month .number)) (c .before .before .before .before .entry .ensures)) (c .before .before .entry2 .ensures))
 
 pub credit-of-spec : {M : Type 1} → statement M
 credit-of-spec =
     tie.close
     (tie.spec
-    unit-requirement-requires
+    entry-requires
     twelfth-requires
-    unit-reserve-requires
+    entry-requires-2
     add-credit
-    unit-service-requires
+    entry-requires-3
     when-same-requires
     returns)

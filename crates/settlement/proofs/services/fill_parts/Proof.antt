@@ -29,8 +29,8 @@ loop-holds c =
     let a = c .before .before .before .before .before .args in
     (stored-start (c .rows-in .result) (λ j. when (not (eqb (accountZone (a .accounts .now) j) 0)) (at (a .uses .now) j)) (a .zoneparts .now), stored-start (c .rows-in .result) (λ j. when (eqb (accountZone (a .accounts .now) j) 0) (at (a .uses .now) j)) (a .nonzoneparts .now))
 
-account-zone-requires : tie.Need-account-zone-requires Inv-loop μ-loop
-account-zone-requires c κs = omega (arith, c .before .before .rows-in .ensures)
+entry-requires : tie.Need-entry-requires Inv-loop μ-loop
+entry-requires c κs = (omega (arith, c .before .before .rows-in .ensures), omega arith)
 
 mul-zone-part : tie.Need-mul-zone-part Inv-loop μ-loop
 mul-zone-part c = search needs
@@ -73,9 +73,9 @@ loop-again c =
     let a = c .before .before .before .before .before .before .before .before .before .before .before .before .args in
     let i = c .before .before .before .before .before .before .loop .i in (
       stored-on (c .before .before .before .before .before .before .loop .inv .0) _ (c .before .before .before .before .before .loop-test .taken)
-          (c .before .before .zone-part .ensures ∙ ap (λ (zone : ℕ). when (not (eqb zone 0)) (at (a .uses .now) i)) (c .before .before .before .before .account-zone .ensures)),
+          (c .before .before .zone-part .ensures ∙ ap (λ (zone : ℕ). when (not (eqb zone 0)) (at (a .uses .now) i)) (c .before .before .before .before .entry .ensures)),
       stored-on (c .before .before .before .before .before .before .loop .inv .1) _ (c .before .before .before .before .before .loop-test .taken)
-          (c .when-same .ensures ∙ ap (λ (zone : ℕ). when (eqb zone 0) (at (a .uses .now) i)) (c .before .before .before .before .account-zone .ensures)),
+          (c .when-same .ensures ∙ ap (λ (zone : ℕ). when (eqb zone 0) (at (a .uses .now) i)) (c .before .before .before .before .entry .ensures)),
     )
 
 same-length : tie.Need-same-length Inv-loop μ-loop
@@ -100,7 +100,7 @@ fill-parts-spec =
     μ-loop
     rows-in-requires
     loop-holds
-    account-zone-requires
+    entry-requires
     mul-zone-part
     shared-slice-read-zone-part
     zone-part-requires

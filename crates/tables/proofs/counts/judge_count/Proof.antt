@@ -1,7 +1,7 @@
 -- `tables::counts::judge_count` meets its contract: its tests are the definition's.
 -- Assumes nothing.
 use native.Mathlib.Omega.{arith}
-use Rattle.tables.specs.Judgement.{counted}
+use Rattle.tables.specs.Counts.{counted}
 use Rattle.tables.proofs.Places.{width-pos}
 use borrow.Author.Needs.{needs}
 use Rattle.tables.proofs.counts.judge_count.Statement.{statement}
@@ -30,7 +30,15 @@ look-at-requires c κs = search needs
 
 returns : tie.Need-returns
 unfolding counted
-returns c = cc
+returns c =
+    simp (
+      c .look-at .ensures,
+      c .before .number .ensures,
+      c .before .before .look .ensures,
+      c .before .before .before .rows-in .ensures,
+      c .before .before .before .before .limit .ensures,
+      c .before .before .before .before .before .width .ensures,
+    )
 
 pub judge-count-spec : {M : Type 1} → statement M
 judge-count-spec =

@@ -1,8 +1,6 @@
 -- `tables::counts::judge_counts` meets its contract: six counts, each behind the ones before.
 -- Assumes nothing.
-use Rattle.tables.specs.declared.Table.the-variants.{Zones}
-use Rattle.tables.specs.Judgement.{counted}
-use Rattle.tables.proofs.Turning.{accepted-then}
+use Rattle.answer.proofs.Turns.{accepted-then}
 use borrow.Author.Needs.{needs}
 use Rattle.tables.proofs.counts.judge_counts.Statement.{statement}
 use Rattle.tables.proofs.counts.judge_counts.Tie as tie
@@ -26,7 +24,16 @@ judge-count-requires-6 : tie.Need-judge-count-requires-6
 judge-count-requires-6 c κs = search needs
 
 returns : tie.Need-returns
-returns c = cc (accepted-then (counted Zones (c .before .before .before .before .before .before .args .zones)))
+returns c =
+    simp (
+      c .judge-count6 .ensures,
+      c .before .judge-count5 .ensures,
+      c .before .before .judge-count4 .ensures,
+      c .before .before .before .judge-count3 .ensures,
+      c .before .before .before .before .judge-count2 .ensures,
+      c .before .before .before .before .before .judge-count .ensures,
+      accepted-then,
+    )
 
 pub judge-counts-spec : {M : Type 1} → statement M
 judge-counts-spec =

@@ -1,0 +1,161 @@
+-- The judgement is a stage: it passes where the month is good, and stops where a rule is broken. Each look of it is a test of one rule.
+-- Assumes nothing.
+use mathlib.Core.Path.{_≡_, refl, sym, ap, _∙_}
+use mathlib.Core.Logic.{⊎-elim, _≢_}
+use mathlib.Core.Bool.{Bool, true, false, true≢false, not}
+use Prim.Native.Nat.{ℕ, _*_, _%_, _≤_, _<_}
+use native.Mathlib.Omega.{arith}
+use lib.ListN.{length}
+use Rattle.answer.specs.declared.Answer.{Answer}
+use Rattle.answer.specs.Numbers.{COUNT, ROOM, MONTH, RANGE, head, charges, credits}
+use Rattle.answer.specs.Turns.{look, accepted, refuse, first, refusal}
+use Rattle.answer.proofs.Turns.{zero-or-not, first-none, first-all, first-refused, RefusedAt}
+use Rattle.month.specs.Limits.{mostRate}
+use Rattle.month.specs.Months.{isMonth}
+use Rattle.tables.specs.declared.Table.{Table}
+use Rattle.tables.specs.declared.Table.the-variants.{Owners, Accounts}
+use Rattle.tables.specs.Shape.{number, width, limit, chargeWidth, creditWidth, rows, Tables, wordsOf}
+use Rattle.rows.specs.Rows.{outside, rowOf}
+use Rattle.tables.specs.Counts.{counted, roomFor, inTurn, Counted}
+use Rattle.judgement.specs.Judgement.{headJudged, rowsJudged, judged}
+use Rattle.judgement.specs.Good.{GoodRow, GoodTable, Roomy, GoodFrame, GoodMonth}
+use Rattle.judgement.specs.Refused.{FirstBroken, by-range, by-order, by-link, by-pair, Refused, by-count, by-charges, by-credits, by-month, by-nonzone, by-row}
+use Rattle.tables.proofs.Tests.{reworded, both, at-least, equal}
+use Rattle.judgement.proofs.Keeping.{within}
+use Rattle.judgement.proofs.Rulings.{Ruling, fine, broken, row-ruled}
+use Rattle.tables.proofs.Stages.{Stage, passed, stopped, passed-on, then-stage, refuse-stage, look-stage, in-turn-stage}
+
+-- a row that is numbered 0 is good, and one that is not breaks the rule of its number
+row-good : (days : ℕ) (t : Tables) (table : Table) (i : ℕ) → rowOf days t table i ≡ 0 → GoodRow days t table i
+row-good days t table i z =
+    elim (row-ruled days t table i) as (λ r. GoodRow days t table i) [ fine e g ↦ g | broken d b ↦ absurd (d z) ]
+
+row-broken : (days : ℕ) (t : Tables) (table : Table) (i n : ℕ) → rowOf days t table i ≡ n → n ≢ 0 → FirstBroken days t table i n
+row-broken days t table i n e d = rw (← e) (go (row-ruled days t table i))
+  where
+    go : Ruling days t table i (rowOf days t table i) → FirstBroken days t table i (rowOf days t table i)
+    go (fine z g) = absurd (d (sym e ∙ z))
+    go (broken b w) = w
+
+row-not-both : (days : ℕ) (t : Tables) (table : Table) (i n : ℕ) → FirstBroken days t table i n → GoodRow days t table i → ⊥
+row-not-both days t table i n (by-range e out) good = out (good .in-range)
+row-not-both days t table i n (by-order e r not-above) good = not-above (good .ascending)
+row-not-both days t table i n (by-link e r o missing) good = missing (good .linked)
+row-not-both days t table i n (by-pair e r o l taken) good = taken (good .unpaired)
+
+module _ (month days nonzone : ℕ) (t : Tables) (lentCharges lentCredits : ℕ) where
+  abbrev Why : Answer → Type 0
+  Why = Refused month days nonzone t lentCharges lentCredits
+
+  counts : Stage ((table : Table) → Counted t table) Why (inTurn (λ table. counted table (length (wordsOf t table))))
+  unfolding counted
+  counts =
+      in-turn-stage (Counted t) Why (λ table. counted table (length (wordsOf t table)))
+      (λ table before.
+      look-stage COUNT (number table) 0 (omega arith)
+      (reworded (λ p. record { whole = p .0; few = p .1 }) (λ r. (r .whole, r .few))
+      (both (equal (length (wordsOf t table) % width table) 0) (at-least (rows table (wordsOf t table)) (limit table))))
+      (by-count table refl before))
+
+  charges-room : ((table : Table) → Counted t table) → Stage (rows Accounts (t .accounts) * chargeWidth ≤ lentCharges) Why (roomFor charges (rows Accounts (t .accounts) * chargeWidth) lentCharges)
+  unfolding roomFor
+  charges-room all =
+      look-stage ROOM charges 0 (omega arith) (at-least (rows Accounts (t .accounts) * chargeWidth) lentCharges)
+      (λ short. by-charges refl all (omega arith))
+
+  credits-room : ((table : Table) → Counted t table) → rows Accounts (t .accounts) * chargeWidth ≤ lentCharges → Stage (Roomy t lentCharges lentCredits) Why (roomFor credits (rows Owners (t .owners) * creditWidth) lentCredits)
+  unfolding roomFor
+  credits-room all fit =
+      passed-on (λ fit₂. record { charges-fit = fit; credits-fit = fit₂ })
+      (look-stage ROOM credits 0 (omega arith) (at-least (rows Owners (t .owners) * creditWidth) lentCredits)
+      (λ short. by-credits refl all fit (omega arith)))
+
+  frame : ((table : Table) → Counted t table) → Roomy t lentCharges lentCredits → Stage (GoodFrame month days nonzone t lentCharges lentCredits) Why (headJudged month days nonzone)
+  unfolding headJudged
+  frame all roomy = go (isMonth month days) refl
+    where
+      go : (m : Bool) → isMonth month days ≡ m → Stage (GoodFrame month days nonzone t lentCharges lentCredits) Why (refuse (look (not m) MONTH (look (outside 0 mostRate nonzone) RANGE 0)) head 0)
+      go false e = refuse-stage MONTH head 0 (λ z. absurd (omega arith)) (λ d. by-month refl all roomy e)
+      go true e =
+          passed-on (λ w. record { counted = all; roomy = roomy; month-known = e; nonzone-in-range = w })
+          (look-stage RANGE head 0 (omega arith) (within 0 mostRate nonzone)
+          (λ out.
+          let high : ¬ (nonzone ≤ mostRate) = λ l. out (record { least = omega arith; most = l }) in
+          by-nonzone refl all roomy e (omega arith)))
+
+  table-rows : GoodFrame month days nonzone t lentCharges lentCredits → (table : Table) → ((earlier : Table) → number earlier < number table → GoodTable days t earlier) → Stage (GoodTable days t table) Why (rowsJudged days t table)
+  unfolding rowsJudged
+  table-rows good table before =
+      ⊎-elim
+      (λ (z : a .number ≡ 0).
+      let all : (i : ℕ) → i < n → rowOf days t table i ≡ 0 = first-all (number table) (rowOf days t table) n z in
+      passed (first-none (number table) (rowOf days t table) n all) (λ i h. row-good days t table i (all i h)))
+      (λ (d : a .number ≢ 0).
+      let at : RefusedAt (number table) (rowOf days t table) n a = first-refused (number table) (rowOf days t table) n d in
+      stopped d
+      (by-row table (a .row) (a .number) (ap (λ k. refusal (a .number) k (a .row)) (at .at-table))
+      (record {
+        frame = good;
+        earlier-tables = before;
+        is-row = at .at-row;
+        earlier-rows = λ j h. row-good days t table j (at .earlier-fine j h);
+        broken = row-broken days t table (a .row) (a .number) (at .its-number) d;
+      })))
+      (zero-or-not (a .number))
+    where
+      n : ℕ
+      n = rows table (wordsOf t table)
+
+      a : Answer
+      a = first (number table) (rowOf days t table) n
+
+  pub judged-stage : Stage (GoodMonth month days nonzone t lentCharges lentCredits) Why (judged month days nonzone t lentCharges lentCredits)
+  unfolding judged
+  judged-stage =
+      then-stage
+      (then-stage {G = ((table : Table) → Counted t table) × Roomy t lentCharges lentCredits}
+      (then-stage {G = ((table : Table) → Counted t table) × (rows Accounts (t .accounts) * chargeWidth ≤ lentCharges)}
+      (then-stage counts (λ all. passed-on (λ fit. (all, fit)) (charges-room all)))
+      (λ p. passed-on (λ roomy. (p .0, roomy)) (credits-room (p .0) (p .1))))
+      (λ p. frame (p .0) (p .1)))
+      (λ good.
+      passed-on (λ all. record { frame = good; tables = all })
+      (in-turn-stage (GoodTable days t) Why (rowsJudged days t) (table-rows good)))
+
+  pub judged-good : judged month days nonzone t lentCharges lentCredits .number ≡ 0 → GoodMonth month days nonzone t lentCharges lentCredits
+  judged-good e =
+      elim judged-stage as (λ s. GoodMonth month days nonzone t lentCharges lentCredits) [ passed q g ↦ g | stopped d w ↦ absurd (d e) ]
+
+  pub judged-why : judged month days nonzone t lentCharges lentCredits .number ≢ 0 → Why (judged month days nonzone t lentCharges lentCredits)
+  judged-why bad =
+      elim judged-stage as (λ s. Why (judged month days nonzone t lentCharges lentCredits))
+      [ passed q g ↦ absurd (bad (ap (λ (a : Answer). a .number) q)) | stopped d w ↦ w ]
+
+  -- no good month has what a refusal says
+  not-both : (a : Answer) → Why a → GoodMonth month days nonzone t lentCharges lentCredits → ⊥
+  not-both a (by-count table e before short) good = short (good .frame .counted table)
+  not-both a (by-charges e all short) good = omega (arith, good .frame .roomy .charges-fit)
+  not-both a (by-credits e all fit short) good = omega (arith, good .frame .roomy .credits-fit)
+  not-both a (by-month e all roomy bad) good = true≢false (sym (good .frame .month-known) ∙ bad)
+  not-both a (by-nonzone e all roomy m high) good = omega (arith, good .frame .nonzone-in-range .most)
+  not-both a (by-row table i n e at) good = row-not-both days t table i n (at .broken) (good .tables table i (at .is-row))
+
+  -- what is refused with MONTH is no month
+  broken-not-month : (table : Table) (i n : ℕ) → FirstBroken days t table i n → n ≢ MONTH
+  broken-not-month table i n (by-range e out) z = omega arith
+  broken-not-month table i n (by-order e r not-above) z = omega arith
+  broken-not-month table i n (by-link e r o missing) z = omega arith
+  broken-not-month table i n (by-pair e r o l taken) z = omega arith
+
+  pub month-why : (a : Answer) → Why a → a .number ≡ MONTH → isMonth month days ≡ false
+  month-why a (by-count table e before short) z = absurd (omega (arith, ap (λ (b : Answer). b .number) e))
+  month-why a (by-charges e all short) z = absurd (omega (arith, ap (λ (b : Answer). b .number) e))
+  month-why a (by-credits e all fit short) z = absurd (omega (arith, ap (λ (b : Answer). b .number) e))
+  month-why a (by-month e all roomy bad) z = bad
+  month-why a (by-nonzone e all roomy m high) z = absurd (omega (arith, ap (λ (b : Answer). b .number) e))
+  month-why a (by-row table i n e at) z = absurd (broken-not-month table i n (at .broken) (sym (ap (λ (b : Answer). b .number) e) ∙ z))
+
+  pub good-unrefused : GoodMonth month days nonzone t lentCharges lentCredits → judged month days nonzone t lentCharges lentCredits ≡ accepted
+  good-unrefused good =
+      elim judged-stage as (λ s. judged month days nonzone t lentCharges lentCredits ≡ accepted)
+      [ passed q g ↦ q | stopped d w ↦ absurd (not-both (judged month days nonzone t lentCharges lentCredits) w good) ]

@@ -1,0 +1,112 @@
+-- Each look of a row finds its fault exactly where the row breaks the rule.
+-- Assumes nothing.
+use mathlib.Core.Path.{_≡_, refl, sym, subst, _∙_}
+use mathlib.Core.Logic.{_⊎_, inl, inr, ⊎-elim, _≢_}
+use mathlib.Core.Bool.{Bool, true, false, true≢false, not, cond, _&&_, _||_}
+use mathlib.Core.List.{List}
+use Prim.Native.Nat.{ℕ, _+_, _-_, _≤_, _<_}
+use native.Mathlib.Omega.{arith}
+use lib.Dec.{ltb, eqb}
+use borrow.Author.Tests.{lt-ltb, le-ltb, eqb-true, eqb-false, eq-eqb, ne-eqb, not-false}
+use Rattle.lists.specs.Sums.{any}
+use Rattle.lists.proofs.Ranks.{lt-or-le, equal-or-not}
+use Rattle.lists.proofs.Search.{any-found, none-at, none-from}
+use Rattle.answer.proofs.Turns.{zero-or-not}
+use Rattle.tables.specs.declared.Table.{Table}
+use Rattle.tables.specs.Shape.{rows}
+use Rattle.tables.specs.Columns.{entry, accountCustomer, accountZone, loadAccount, loadDay}
+use Rattle.tables.specs.Limits.{reactive, mostReserve, reserveLimit}
+use Rattle.rows.specs.Rows.{outside, notAbove, byFirst, byAccountAndDay, names, unknown, samePair, taken}
+use Rattle.judgement.specs.Good.{Within, FirstAbove, LoadAbove, Known, OwnPair}
+use Rattle.rows.proofs.Looks.{first-row, later-row, row-found}
+use Rattle.tables.proofs.Tests.{Tests, reworded, both, at-least, less}
+
+-- RANGE
+pub within : (low high x : ℕ) → Tests (Within low high x) (outside low high x)
+within low high x =
+    reworded (λ p. record { least = p .0; most = p .1 }) (λ r. (r .least, r .most)) (both (at-least low x) (at-least x high))
+
+-- "The reserve credit is 0..10^10, and 0 for reactive"
+pub reserve : (service x : ℕ) → Tests (Within 0 mostReserve x × (service ≡ reactive → x ≡ 0)) (outside 0 (reserveLimit service) x)
+reserve service x = go (eqb service reactive) refl
+  where
+    go : (t : Bool) → eqb service reactive ≡ t → Tests (Within 0 mostReserve x × (service ≡ reactive → x ≡ 0)) (outside 0 (cond t 0 mostReserve) x)
+    go true e = record {
+      holds = λ f. let w : Within 0 0 x = within 0 0 x .holds f in (omega arith, λ q. omega arith);
+      kept = λ p. let z : x ≡ 0 = p .1 (eqb-true service reactive e) in within 0 0 x .kept (omega arith);
+    }
+    go false e = record {
+      holds = λ f. (within 0 mostReserve x .holds f, λ q. absurd (eqb-false service reactive e q));
+      kept = λ p. within 0 mostReserve x .kept (p .0);
+    }
+
+-- ORDER: a row stands above the one before, where there is one
+pub above-before : {A : ℕ → ℕ → Type 0} (above : ℕ → ℕ → Bool) → ((j i : ℕ) → Tests (A j i) (not (above j i))) → (i : ℕ) → Tests ((j : ℕ) → i ≡ j + 1 → A j i) (notAbove above i)
+above-before {A} above test i =
+    ⊎-elim
+    (λ (z : i ≡ 0). record { holds = λ e j q. absurd (omega arith); kept = λ r. sym (first-row above i z) })
+    (λ (d : i ≢ 0). record {
+      holds = λ e j q. subst (λ k. A k i) (omega arith) (test (i - 1) i .holds (later-row above i d ∙ e));
+      kept = λ r. sym (later-row above i d) ∙ test (i - 1) i .kept (r (i - 1) (omega arith));
+    })
+    (zero-or-not i)
+
+pub first-above : (table : Table) (words : List ℕ) (j i : ℕ) → Tests (FirstAbove table words j i) (not (byFirst table words j i))
+first-above table words j i = less (entry table 0 words j) (entry table 0 words i)
+
+-- of two pairs, one stands above the other by its first, or by its second where the first is the same
+pair-above : (a b c d : ℕ) → Tests ((a < b) ⊎ ((a ≡ b) × (c < d))) (not (ltb a b || (eqb a b && ltb c d)))
+pair-above a b c d =
+    ⊎-elim
+    (λ (l : a < b). record { holds = λ e. inl l; kept = λ r. rw (lt-ltb a b l) })
+    (λ (l : b ≤ a).
+    ⊎-elim
+    (λ (q : a ≡ b).
+    reworded (λ m. inr (q, m)) (λ r. ⊎-elim (λ m. absurd (omega arith)) (λ p. p .1) r)
+    (rw (le-ltb a b l, eq-eqb a b q) (less c d)))
+    (λ (q : a ≢ b). record {
+      holds = λ e. absurd (true≢false (sym (rw (le-ltb a b l, ne-eqb a b q)) ∙ e));
+      kept = λ r. absurd (⊎-elim (λ m. omega arith) (λ p. q (p .0)) r);
+    })
+    (equal-or-not a b))
+    (lt-or-le a b)
+
+pub load-above : (loads : List ℕ) (j i : ℕ) → Tests (LoadAbove loads j i) (not (byAccountAndDay loads j i))
+load-above loads j i = pair-above (loadAccount loads j) (loadAccount loads i) (loadDay loads j) (loadDay loads i)
+
+-- LINK
+pub known : (table : Table) (words : List ℕ) (x : ℕ) → Tests (Known table words x) (unknown table words x)
+unfolding unknown
+known table words x = record {
+  holds = λ e.
+      let found : (j : ℕ) × (j < rows table words) × (names table words x j ≡ true) =
+      any-found (rows table words) (names table words x) (not-false (any (rows table words) (names table words x)) e) in
+      (found .0, found .1, eqb-true (entry table 0 words (found .0)) x (found .2));
+  kept = λ k. sym (row-found table words x (k .0) (k .1) (k .2));
+}
+
+-- "account zone 0 excepted"
+pub unless-zero : {Rule : Type 0} {fault : Bool} (x : ℕ) → Tests Rule fault → Tests (x ≢ 0 → Rule) (not (eqb x 0) && fault)
+unless-zero x test =
+    ⊎-elim
+    (λ (z : x ≡ 0). record { holds = λ e d. absurd (d z); kept = λ r. rw (eq-eqb x 0 z) })
+    (λ (d : x ≢ 0). reworded (λ r n. r) (λ r. r d) (rw (ne-eqb x 0 d) test))
+    (zero-or-not x)
+
+-- PAIR
+same-both : (a b c d : ℕ) → Tests (a ≡ b → c ≢ d) (eqb a b && eqb c d)
+same-both a b c d =
+    ⊎-elim
+    (λ (p : a ≡ b). reworded (λ n q. n) (λ r. r p) (rw (eq-eqb a b p) (record { holds = eqb-false c d; kept = ne-eqb c d })))
+    (λ (p : a ≢ b). record { holds = λ e q. absurd (p q); kept = λ r. rw (ne-eqb a b p) })
+    (equal-or-not a b)
+
+pub own-pair : (accounts : List ℕ) (i : ℕ) → Tests (OwnPair accounts i) (taken accounts i)
+unfolding taken
+own-pair accounts i = record {
+  holds = λ e j h. test j .holds (none-at i (λ k. samePair accounts k i) e j h);
+  kept = λ r. none-from i (λ k. samePair accounts k i) (λ j h. test j .kept (r j h));
+}
+  where
+    test : (j : ℕ) → Tests (accountCustomer accounts j ≡ accountCustomer accounts i → accountZone accounts j ≢ accountZone accounts i) (samePair accounts j i)
+    test j = same-both (accountCustomer accounts j) (accountCustomer accounts i) (accountZone accounts j) (accountZone accounts i)

@@ -1,0 +1,8 @@
+mod Refusals
+mod Turning
+mod Keeping
+mod Rulings
+pub mod Judging
+pub mod Ascents
+pub mod Promises
+pub mod Unique

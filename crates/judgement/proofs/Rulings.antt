@@ -1,0 +1,161 @@
+-- A row's number says which of its rules is the first that is broken. For each table the four looks are the tests of its four rules.
+-- Assumes nothing.
+use mathlib.Core.Path.{_≡_, refl}
+use mathlib.Core.Logic.{_≢_}
+use mathlib.Core.Bool.{Bool, true, false}
+use mathlib.Core.List.{List}
+use Prim.Native.Nat.{ℕ, _+_}
+use native.Mathlib.Omega.{arith}
+use Rattle.month.specs.Limits.{mostRate, mostAnnual, mostLoad, mostEnergy}
+use Rattle.tables.specs.declared.Table.{Table}
+use Rattle.tables.specs.declared.Table.the-variants.{Zones, Owners, Units, Accounts, Loads, Reservations}
+use Rattle.tables.specs.Shape.{Tables, wordsOf}
+use Rattle.tables.specs.Columns.{
+  zoneNumber,
+  zoneRate,
+  ownerNumber,
+  ownerZone,
+  ownerRequirement,
+  unitNumber,
+  unitOwner,
+  unitZone,
+  unitService,
+  unitRequirement,
+  unitReserve,
+  accountNumber,
+  accountCustomer,
+  accountZone,
+  loadAccount,
+  loadDay,
+  loadContribution,
+  reservationAccount,
+  reservationReserved,
+  reservationCurtailed,
+}
+use Rattle.tables.specs.Limits.{lastZone, lastOwner, lastUnit, lastAccount, lastCustomer, blackStart, reactive}
+use Rattle.rows.specs.Rows.{rowNumber, notAbove, byFirst, byAccountAndDay, zoneOutside, ownerOutside, unitOutside, accountOutside, loadOutside, reservationOutside, rowOutside, rowAbove, rowUnlinked, rowTaken, rowIn, rowOf}
+use Rattle.judgement.specs.Good.{ZoneInRange, OwnerInRange, UnitInRange, AccountInRange, LoadInRange, ReservationInRange, InRange, FirstAbove, Ascending, Linked, Unpaired, GoodRow}
+use Rattle.judgement.specs.Refused.{FirstBroken, by-range, by-order, by-link, by-pair}
+use Rattle.tables.proofs.Tests.{Tests, breaks, reworded, no-rule, both}
+use Rattle.judgement.proofs.Keeping.{within, reserve, above-before, first-above, load-above, known, unless-zero, own-pair}
+
+-- RANGE, table by table
+zone-range : (zones : List ℕ) (i : ℕ) → Tests (ZoneInRange zones i) (zoneOutside zones i)
+unfolding zoneOutside
+zone-range zones i =
+    reworded (λ p. record { zone = p .0; rate = p .1 }) (λ r. (r .zone, r .rate))
+    (both (within 1 lastZone (zoneNumber zones i)) (within 0 mostRate (zoneRate zones i)))
+
+owner-range : (owners : List ℕ) (i : ℕ) → Tests (OwnerInRange owners i) (ownerOutside owners i)
+unfolding ownerOutside
+owner-range owners i =
+    reworded (λ p. record { owner = p .0 .0; zone = p .0 .1; requirement = p .1 }) (λ r. ((r .owner, r .zone), r .requirement))
+    (both (both (within 1 lastOwner (ownerNumber owners i)) (within 1 lastZone (ownerZone owners i)))
+    (within 0 mostAnnual (ownerRequirement owners i)))
+
+unit-range : (units : List ℕ) (i : ℕ) → Tests (UnitInRange units i) (unitOutside units i)
+unfolding unitOutside
+unit-range units i =
+    reworded
+    (λ p. record {
+      unit = p .0 .0 .0 .0 .0;
+      owner = p .0 .0 .0 .0 .1;
+      zone = p .0 .0 .0 .1;
+      service = p .0 .0 .1;
+      requirement = p .0 .1;
+      reserve = p .1 .0;
+      none-for-reactive = p .1 .1;
+    })
+    (λ r. (((((r .unit, r .owner), r .zone), r .service), r .requirement), (r .reserve, r .none-for-reactive)))
+    (both
+    (both
+    (both
+    (both (both (within 1 lastUnit (unitNumber units i)) (within 1 lastOwner (unitOwner units i)))
+    (within 1 lastZone (unitZone units i)))
+    (within blackStart reactive (unitService units i)))
+    (within 0 mostAnnual (unitRequirement units i)))
+    (reserve (unitService units i) (unitReserve units i)))
+
+account-range : (accounts : List ℕ) (i : ℕ) → Tests (AccountInRange accounts i) (accountOutside accounts i)
+unfolding accountOutside
+account-range accounts i =
+    reworded (λ p. record { account = p .0 .0; customer = p .0 .1; zone = p .1 }) (λ r. ((r .account, r .customer), r .zone))
+    (both (both (within 1 lastAccount (accountNumber accounts i)) (within 1 lastCustomer (accountCustomer accounts i)))
+    (within 0 lastZone (accountZone accounts i)))
+
+load-range : (days : ℕ) (loads : List ℕ) (i : ℕ) → Tests (LoadInRange days loads i) (loadOutside days loads i)
+unfolding loadOutside
+load-range days loads i =
+    reworded (λ p. record { account = p .0 .0; day = p .0 .1; contribution = p .1 }) (λ r. ((r .account, r .day), r .contribution))
+    (both (both (within 1 lastAccount (loadAccount loads i)) (within 1 days (loadDay loads i)))
+    (within 0 mostLoad (loadContribution loads i)))
+
+reservation-range : (reservations : List ℕ) (i : ℕ) → Tests (ReservationInRange reservations i) (reservationOutside reservations i)
+unfolding reservationOutside
+reservation-range reservations i =
+    reworded
+    (λ p. record { account = p .0 .0 .0; reserved = p .0 .0 .1; curtailed = p .0 .1; at-most-reserved = p .1 .most })
+    (λ r. (((r .account, r .reserved), r .curtailed), record { least = r .curtailed .least; most = r .at-most-reserved }))
+    (both
+    (both (both (within 1 lastAccount (reservationAccount reservations i)) (within 0 mostEnergy (reservationReserved reservations i)))
+    (within 0 mostEnergy (reservationCurtailed reservations i)))
+    (within 0 (reservationReserved reservations i) (reservationCurtailed reservations i)))
+
+range-tested : (days : ℕ) (t : Tables) (table : Table) (i : ℕ) → Tests (InRange days t table i) (rowOutside days table (wordsOf t table) i)
+range-tested days t Zones i = zone-range (t .zones) i
+range-tested days t Owners i = owner-range (t .owners) i
+range-tested days t Units i = unit-range (t .units) i
+range-tested days t Accounts i = account-range (t .accounts) i
+range-tested days t Loads i = load-range days (t .loads) i
+range-tested days t Reservations i = reservation-range (t .reservations) i
+
+-- what a number says of a row: 0 that it is good, any other which rule is the first that is broken
+pub data Ruling (days : ℕ) (t : Tables) (table : Table) (i n : ℕ) : Type 0 where
+  fine : n ≡ 0 → GoodRow days t table i → Ruling days t table i n
+  broken : n ≢ 0 → FirstBroken days t table i n → Ruling days t table i n
+
+module _ (days : ℕ) (t : Tables) (table : Table) (i : ℕ) where
+  -- four tests of a row's four rules, looked at in turn
+  ruled : {range order link pair : Bool} → Tests (InRange days t table i) range → Tests (Ascending t table i) order → Tests (Linked t table i) link → Tests (Unpaired t table i) pair → Ruling days t table i (rowNumber range order link pair)
+  unfolding rowNumber
+  ruled {range = true} {order} {link} {pair} r o l p = broken (omega arith) (by-range refl (breaks r refl))
+  ruled {range = false} {order = true} {link} {pair} r o l p = broken (omega arith) (by-order refl (r .holds refl) (breaks o refl))
+  ruled {range = false} {order = false} {link = true} {pair} r o l p =
+      broken (omega arith) (by-link refl (r .holds refl) (o .holds refl) (breaks l refl))
+  ruled {range = false} {order = false} {link = false} {pair = true} r o l p =
+      broken (omega arith) (by-pair refl (r .holds refl) (o .holds refl) (l .holds refl) (breaks p refl))
+  ruled {range = false} {order = false} {link = false} {pair = false} r o l p =
+      fine refl (record { in-range = r .holds refl; ascending = o .holds refl; linked = l .holds refl; unpaired = p .holds refl })
+
+ascending-by-first : (table : Table) (words : List ℕ) (i : ℕ) → Tests ((j : ℕ) → i ≡ j + 1 → FirstAbove table words j i) (notAbove (byFirst table words) i)
+ascending-by-first table words = above-before (byFirst table words) (first-above table words)
+
+-- ORDER, LINK and PAIR, table by table
+order-tested : (t : Tables) (table : Table) (i : ℕ) → Tests (Ascending t table i) (notAbove (rowAbove table (wordsOf t table)) i)
+order-tested t Zones i = ascending-by-first Zones (t .zones) i
+order-tested t Owners i = ascending-by-first Owners (t .owners) i
+order-tested t Units i = ascending-by-first Units (t .units) i
+order-tested t Accounts i = ascending-by-first Accounts (t .accounts) i
+order-tested t Loads i = above-before (byAccountAndDay (t .loads)) (load-above (t .loads)) i
+order-tested t Reservations i = ascending-by-first Reservations (t .reservations) i
+
+link-tested : (t : Tables) (table : Table) (i : ℕ) → Tests (Linked t table i) (rowUnlinked (t .zones) (t .owners) (t .accounts) table (wordsOf t table) i)
+link-tested t Zones i = no-rule
+link-tested t Owners i = known Zones (t .zones) (ownerZone (t .owners) i)
+link-tested t Units i = both (known Owners (t .owners) (unitOwner (t .units) i)) (known Zones (t .zones) (unitZone (t .units) i))
+link-tested t Accounts i = unless-zero (accountZone (t .accounts) i) (known Zones (t .zones) (accountZone (t .accounts) i))
+link-tested t Loads i = known Accounts (t .accounts) (loadAccount (t .loads) i)
+link-tested t Reservations i = known Accounts (t .accounts) (reservationAccount (t .reservations) i)
+
+pair-tested : (t : Tables) (table : Table) (i : ℕ) → Tests (Unpaired t table i) (rowTaken table (wordsOf t table) i)
+pair-tested t Zones i = no-rule
+pair-tested t Owners i = no-rule
+pair-tested t Units i = no-rule
+pair-tested t Accounts i = own-pair (t .accounts) i
+pair-tested t Loads i = no-rule
+pair-tested t Reservations i = no-rule
+
+pub row-ruled : (days : ℕ) (t : Tables) (table : Table) (i : ℕ) → Ruling days t table i (rowOf days t table i)
+unfolding rowIn
+row-ruled days t table i =
+    ruled days t table i (range-tested days t table i) (order-tested t table i) (link-tested t table i) (pair-tested t table i)

@@ -1,0 +1,3 @@
+pub mod Judgement
+pub mod Good
+pub mod Refused

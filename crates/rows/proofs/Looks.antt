@@ -1,0 +1,61 @@
+-- What a row's looks find, as the code finds it: the first row has none before it, a search ends where it finds a row.
+-- Assumes nothing.
+use mathlib.Core.Path.{_≡_, refl, sym, ap, subst}
+use mathlib.Core.Bool.{Bool, true, false, not}
+use mathlib.Core.List.{List}
+use Prim.Native.Nat.{ℕ, _-_, _/_, _<_}
+use native.Mathlib.Nat.{pos-of-ne-zero}
+use borrow.Author.Tests.{lt-ltb, eq-eqb}
+use Rattle.lists.specs.Sums.{any}
+use Rattle.lists.proofs.Search.{any-at}
+use Rattle.tables.specs.declared.Table.{Table}
+use Rattle.tables.specs.declared.Table.the-variants.{Zones, Owners, Units, Accounts, Loads, Reservations}
+use Rattle.tables.specs.Shape.{number, width, rows}
+use Rattle.tables.specs.Columns.{entry}
+use Rattle.rows.specs.Rows.{notAbove, byFirst, rowAbove, names, unknown, samePair, taken, rowTaken}
+
+-- a row of a table that turns out to be a certain one
+pub row-of : (table known : Table) (n i : ℕ) → table ≡ known → i < n / width table → i < n / width known
+row-of table known n i e h = subst (λ k. i < n / width k) e h
+
+pub first-row : (above : ℕ → ℕ → Bool) (i : ℕ) → i ≡ 0 → false ≡ notAbove above i
+unfolding notAbove
+first-row above i e = rw e
+
+pub later-row : (above : ℕ → ℕ → Bool) (i : ℕ) → (i ≡ 0 → ⊥) → not (above (i - 1) i) ≡ notAbove above i
+unfolding notAbove
+later-row above i d = rw (lt-ltb 0 i (pos-of-ne-zero d))
+
+-- a table that is not the loads' ascends by its first entry
+pub by-first : (table : Table) (words : List ℕ) (i : ℕ) → (number table ≡ number Loads → ⊥) → notAbove (byFirst table words) i ≡ notAbove (rowAbove table words) i
+by-first Zones words i d = refl
+by-first Owners words i d = refl
+by-first Units words i d = refl
+by-first Accounts words i d = refl
+by-first Loads words i d = absurd (d refl)
+by-first Reservations words i d = refl
+
+pub row-found : (table : Table) (words : List ℕ) (x j : ℕ) → j < rows table words → entry table 0 words j ≡ x → false ≡ unknown table words x
+unfolding unknown
+row-found table words x j h e = sym (ap not (any-at (rows table words) (names table words x) j h (eq-eqb (entry table 0 words j) x e)))
+
+pub row-missing : (table : Table) (words : List ℕ) (x : ℕ) → any (rows table words) (names table words x) ≡ false → true ≡ unknown table words x
+unfolding unknown
+row-missing table words x e = rw e
+
+pub pair-found : (accounts : List ℕ) (i j : ℕ) → j < i → samePair accounts j i ≡ true → true ≡ taken accounts i
+unfolding taken
+pair-found accounts i j h e = sym (any-at i (λ k. samePair accounts k i) j h e)
+
+pub pair-missing : (accounts : List ℕ) (i : ℕ) → any i (λ k. samePair accounts k i) ≡ false → false ≡ taken accounts i
+unfolding taken
+pair-missing accounts i e = sym e
+
+-- in a table that is not the accounts' nothing is taken
+pub none-taken : (table : Table) (words : List ℕ) (i : ℕ) → (number table ≡ number Accounts → ⊥) → false ≡ rowTaken table words i
+none-taken Zones words i d = refl
+none-taken Owners words i d = refl
+none-taken Units words i d = refl
+none-taken Accounts words i d = absurd (d refl)
+none-taken Loads words i d = refl
+none-taken Reservations words i d = refl

@@ -1,0 +1,168 @@
+-- What is looked at in a row of each table, and the row's number: 0 where it is fine.
+-- Assumes nothing.
+use Prim.Native.Nat.{ℕ, _-_}
+use mathlib.Core.Bool.{Bool, false, not, _&&_, _||_}
+use mathlib.Core.List.{List}
+use lib.Dec.{eqb, ltb}
+use Rattle.lists.specs.Sums.{any}
+use Rattle.answer.specs.Numbers.{RANGE, ORDER, LINK, PAIR}
+use Rattle.answer.specs.Turns.{look}
+use Rattle.month.specs.Limits.{mostRate, mostAnnual, mostLoad, mostEnergy}
+use Rattle.tables.specs.declared.Table.{Table}
+use Rattle.tables.specs.declared.Table.the-variants.{Zones, Owners, Units, Accounts, Loads, Reservations}
+use Rattle.tables.specs.Shape.{rows, Tables, wordsOf}
+use Rattle.tables.specs.Columns.{
+  entry,
+  zoneNumber,
+  zoneRate,
+  ownerNumber,
+  ownerZone,
+  ownerRequirement,
+  unitNumber,
+  unitOwner,
+  unitZone,
+  unitService,
+  unitRequirement,
+  unitReserve,
+  accountNumber,
+  accountCustomer,
+  accountZone,
+  loadAccount,
+  loadDay,
+  loadContribution,
+  reservationAccount,
+  reservationReserved,
+  reservationCurtailed,
+}
+use Rattle.tables.specs.Limits.{lastZone, lastOwner, lastUnit, lastAccount, lastCustomer, blackStart, reactive, reserveLimit}
+
+-- "an entry outside its range"
+abbrev pub outside : ℕ → ℕ → ℕ → Bool
+outside low high x = ltb x low || ltb high x
+
+-- "1 zones: zone 1..999, rate"; "Rates are .. 0..10^8"
+unfoldable pub zoneOutside : List ℕ → ℕ → Bool
+zoneOutside zones i = outside 1 lastZone (zoneNumber zones i) || outside 0 mostRate (zoneRate zones i)
+
+-- "2 owners: owner 1..9999, zone, annual transmission requirement"; "Zone 0 .. outside an account .. is RANGE. An entry that
+-- names a row has that row's range"; "Annual requirements are 0..10^12"
+unfoldable pub ownerOutside : List ℕ → ℕ → Bool
+ownerOutside owners i =
+    outside 1 lastOwner (ownerNumber owners i)
+    || outside 1 lastZone (ownerZone owners i)
+    || outside 0 mostAnnual (ownerRequirement owners i)
+
+-- "3 units: unit 1..9999, owner, zone, service, annual requirement, reserve credit"; "Service is 1 black start or 2 reactive"
+unfoldable pub unitOutside : List ℕ → ℕ → Bool
+unitOutside units i =
+    outside 1 lastUnit (unitNumber units i)
+    || outside 1 lastOwner (unitOwner units i)
+    || outside 1 lastZone (unitZone units i)
+    || outside blackStart reactive (unitService units i)
+    || outside 0 mostAnnual (unitRequirement units i)
+    || outside 0 (reserveLimit (unitService units i)) (unitReserve units i)
+
+-- "4 accounts: account 1..9999, customer 1..10^9, zone"; "Zone 0 means non-zone or border"
+unfoldable pub accountOutside : List ℕ → ℕ → Bool
+accountOutside accounts i =
+    outside 1 lastAccount (accountNumber accounts i)
+    || outside 1 lastCustomer (accountCustomer accounts i)
+    || outside 0 lastZone (accountZone accounts i)
+
+-- "5 loads: account, day, peak load contribution"; "A day is 1..days"; "Peak load is .. 0..10^6"
+unfoldable pub loadOutside : ℕ → List ℕ → ℕ → Bool
+loadOutside days loads i =
+    outside 1 lastAccount (loadAccount loads i) || outside 1 days (loadDay loads i) || outside 0 mostLoad (loadContribution loads i)
+
+-- "6 reservations: account, reserved, curtailed"; "0..10^9, curtailed at most reserved"
+unfoldable pub reservationOutside : List ℕ → ℕ → Bool
+reservationOutside reservations i =
+    outside 1 lastAccount (reservationAccount reservations i)
+    || outside 0 mostEnergy (reservationReserved reservations i)
+    || outside 0 mostEnergy (reservationCurtailed reservations i)
+    || outside 0 (reservationReserved reservations i) (reservationCurtailed reservations i)
+
+-- RANGE of row i of a table, in a month of so many days
+abbrev pub rowOutside : ℕ → Table → List ℕ → ℕ → Bool
+rowOutside days Zones words i = zoneOutside words i
+rowOutside days Owners words i = ownerOutside words i
+rowOutside days Units words i = unitOutside words i
+rowOutside days Accounts words i = accountOutside words i
+rowOutside days Loads words i = loadOutside days words i
+rowOutside days Reservations words i = reservationOutside words i
+
+-- "a row not above the one before"; `above j i` is whether row i stands above row j
+unfoldable pub notAbove : (ℕ → ℕ → Bool) → ℕ → Bool
+notAbove above i = ltb 0 i && not (above (i - 1) i)
+
+-- "Zones, owners, units, accounts and reservations strictly ascend by their first entry .."
+abbrev pub byFirst : Table → List ℕ → ℕ → ℕ → Bool
+byFirst table words j i = ltb (entry table 0 words j) (entry table 0 words i)
+
+-- ".. loads by account, then day"
+abbrev pub byAccountAndDay : List ℕ → ℕ → ℕ → Bool
+byAccountAndDay loads j i =
+    ltb (loadAccount loads j) (loadAccount loads i)
+    || (eqb (loadAccount loads j) (loadAccount loads i) && ltb (loadDay loads j) (loadDay loads i))
+
+-- ORDER of the rows of a table
+abbrev pub rowAbove : Table → List ℕ → ℕ → ℕ → Bool
+rowAbove Zones words = byFirst Zones words
+rowAbove Owners words = byFirst Owners words
+rowAbove Units words = byFirst Units words
+rowAbove Accounts words = byFirst Accounts words
+rowAbove Loads words = byAccountAndDay words
+rowAbove Reservations words = byFirst Reservations words
+
+-- row j has x as its first entry
+abbrev pub names : Table → List ℕ → ℕ → ℕ → Bool
+names table words x j = eqb (entry table 0 words j) x
+
+-- "a named row doesn't exist"
+unfoldable pub unknown : Table → List ℕ → ℕ → Bool
+unknown table words x = not (any (rows table words) (names table words x))
+
+-- LINK of row i of a table: "A zone, owner or account that a row refers to must have a row (account zone 0 excepted)"; "A unit may
+-- serve a zone that isn't its owner's"
+abbrev pub rowUnlinked : List ℕ → List ℕ → List ℕ → Table → List ℕ → ℕ → Bool
+rowUnlinked zones owners accounts Zones words i = false
+rowUnlinked zones owners accounts Owners words i = unknown Zones zones (ownerZone words i)
+rowUnlinked zones owners accounts Units words i = unknown Owners owners (unitOwner words i) || unknown Zones zones (unitZone words i)
+rowUnlinked zones owners accounts Accounts words i = not (eqb (accountZone words i) 0) && unknown Zones zones (accountZone words i)
+rowUnlinked zones owners accounts Loads words i = unknown Accounts accounts (loadAccount words i)
+rowUnlinked zones owners accounts Reservations words i = unknown Accounts accounts (reservationAccount words i)
+
+-- two accounts "share customer and zone"
+abbrev pub samePair : List ℕ → ℕ → ℕ → Bool
+samePair accounts j i =
+    eqb (accountCustomer accounts j) (accountCustomer accounts i) && eqb (accountZone accounts j) (accountZone accounts i)
+
+-- "customer and zone already taken by an earlier account"
+unfoldable pub taken : List ℕ → ℕ → Bool
+taken accounts i = any i (λ j. samePair accounts j i)
+
+-- PAIR of row i of a table: only accounts have customer and zone
+abbrev pub rowTaken : Table → List ℕ → ℕ → Bool
+rowTaken Zones words i = false
+rowTaken Owners words i = false
+rowTaken Units words i = false
+rowTaken Accounts words i = taken words i
+rowTaken Loads words i = false
+rowTaken Reservations words i = false
+
+-- "in a row RANGE, ORDER, LINK, PAIR": the number of the first of a row's four faults that is there
+unfoldable pub rowNumber : Bool → Bool → Bool → Bool → ℕ
+rowNumber range order link pair = look range RANGE (look order ORDER (look link LINK (look pair PAIR 0)))
+
+-- the number of row i of a table, in a month of so many days; its entries may name rows of the zones, owners and accounts
+unfoldable pub rowIn : ℕ → List ℕ → List ℕ → List ℕ → Table → List ℕ → ℕ → ℕ
+rowIn days zones owners accounts table words i =
+    rowNumber
+    (rowOutside days table words i)
+    (notAbove (rowAbove table words) i)
+    (rowUnlinked zones owners accounts table words i)
+    (rowTaken table words i)
+
+-- .. and of a month's table
+abbrev pub rowOf : ℕ → Tables → Table → ℕ → ℕ
+rowOf days t table = rowIn days (t .zones) (t .owners) (t .accounts) table (wordsOf t table)
