@@ -15,10 +15,10 @@ use Rattle.month.specs.Quantities as month
 use Rattle.tables.specs.Limits.{blackStart, reactive}
 use Rattle.tables.specs.Rows as rows
 use Rattle.tables.specs.Judgement as judgement
-use Rattle.settlement.specs.Input.{Input, inputOf}
-use Rattle.settlement.specs.Accounts.{contributions, reserved, curtailed, accountUse}
-use Rattle.settlement.specs.Network as network
-use Rattle.settlement.specs.Services as services
+use Rattle.pool.specs.Input.{Input, inputOf}
+use Rattle.pool.specs.Accounts.{contributions, reserved, curtailed, accountUse}
+use Rattle.pool.specs.Network as network
+use Rattle.pool.specs.Services as services
 use Rattle.settlement.specs.Settled.{networkInTurn, divisionsInTurn, answerOf, chargeOf, creditOf, chargeWords, creditWords}
 
 abbrev caseS : Input

@@ -20,9 +20,9 @@ use Rattle.text.specs.Numbers.{isDigit, digitsOn, number, digits, decimal}
 use Rattle.text.specs.Lines.{past, field, fields, line, fieldsText, lineText}
 use Rattle.monthfile.specs.Reading as reading
 use Rattle.monthfile.specs.Writing.{rowsText}
-use Rattle.settlement.specs.Accounts.{contributions, reserved, curtailed, accountUse}
-use Rattle.settlement.specs.Network as network
-use Rattle.settlement.specs.Services as services
+use Rattle.pool.specs.Accounts.{contributions, reserved, curtailed, accountUse}
+use Rattle.pool.specs.Network as network
+use Rattle.pool.specs.Services as services
 use Rattle.settlement.specs.Settled.{networkInTurn, divisionsInTurn, answerOf, chargeOf, creditOf, chargeWords, creditWords}
 use Rattle.statement_text.specs.Statement.{rowsWith, linesText, allCharges, allCredits, statementLines, settledAnswer, refuseLine, settledText, statementOf}
 

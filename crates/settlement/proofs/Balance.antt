@@ -15,9 +15,9 @@ use Rattle.tables.specs.declared.Table.the-variants.{Zones, Owners, Units, Acco
 use Rattle.tables.specs.Shape.{Tables}
 use Rattle.tables.specs.Columns.{zoneNumber, ownerNumber, unitOwner, unitZone, accountZone}
 use Rattle.tables.specs.Good.{Known}
-use Rattle.settlement.specs.Input.{Input, zoneCount, ownerCount, unitCount, accountCount}
-use Rattle.settlement.specs.Network.{networkCharge, chargesIn}
-use Rattle.settlement.specs.Services.{partOf, creditIn, serviceCredit, zonePot}
+use Rattle.pool.specs.Input.{Input, zoneCount, ownerCount, unitCount, accountCount}
+use Rattle.pool.specs.Network.{networkCharge, chargesIn}
+use Rattle.pool.specs.Services.{partOf, creditIn, serviceCredit, zonePot}
 use Rattle.settlement.specs.Accepted.{Good}
 use Rattle.settlement.proofs.Keys.{row-of, no-row-of}
 use Rattle.settlement.proofs.Ranges.{zones-ascend, owners-ascend}

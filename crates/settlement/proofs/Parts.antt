@@ -25,10 +25,10 @@ use Rattle.service.proofs.Promises as promises
 use Rattle.tables.specs.declared.Table.the-variants.{Zones}
 use Rattle.tables.specs.Shape.{Tables}
 use Rattle.tables.specs.Columns.{zoneNumber, ownerZone, accountZone}
-use Rattle.settlement.specs.Input.{Input, zoneCount, ownerCount, accountCount}
-use Rattle.settlement.specs.Accounts.{accountUse}
-use Rattle.settlement.specs.Network.{networkPots, networkCredit}
-use Rattle.settlement.specs.Services.{zonePart, nonzonePart, serviceIn, serviceCharge}
+use Rattle.pool.specs.Input.{Input, zoneCount, ownerCount, accountCount}
+use Rattle.pool.specs.Accounts.{accountUse}
+use Rattle.pool.specs.Network.{networkPots, networkCredit}
+use Rattle.pool.specs.Services.{zonePart, nonzonePart, serviceIn, serviceCharge}
 use Rattle.settlement.specs.Accepted.{Accepted}
 use Rattle.settlement.proofs.Keys.{distinct}
 use Rattle.settlement.proofs.Ranges.{zones-ascend}

@@ -26,10 +26,10 @@ use Rattle.service.proofs.Promises as service
 use Rattle.tables.specs.Shape.{chargeWidth, creditWidth, Tables}
 use Rattle.tables.specs.Columns.{zoneNumber, ownerNumber, ownerZone, ownerRequirement, unitOwner, accountZone, zoneRate, accountNumber, reservationAccount, reservationReserved, reservationCurtailed}
 use Rattle.tables.specs.Limits.{blackStart, reactive}
-use Rattle.settlement.specs.Input.{Input, zoneCount, ownerCount, unitCount, accountCount, reservationCount}
-use Rattle.settlement.specs.Accounts.{accountUse, reserved, curtailed}
-use Rattle.settlement.specs.Network.{chargesIn, networkPots, networkCredit, requirements, nonzoneCredit, nonzoneRefusal, rate}
-use Rattle.settlement.specs.Services.{partOf, creditIn, serviceCredit, zonePot, serviceIn, serviceCharge}
+use Rattle.pool.specs.Input.{Input, zoneCount, ownerCount, unitCount, accountCount, reservationCount}
+use Rattle.pool.specs.Accounts.{accountUse, reserved, curtailed}
+use Rattle.pool.specs.Network.{chargesIn, networkPots, networkCredit, requirements, nonzoneCredit, nonzoneRefusal, rate}
+use Rattle.pool.specs.Services.{partOf, creditIn, serviceCredit, zonePot, serviceIn, serviceCharge}
 use Rattle.settlement.specs.Settled.{answerOf, chargeOf, creditOf, Settled}
 use Rattle.settlement.specs.Accepted.{IsService, Accepted}
 use Rattle.settlement.proofs.Accepting.{answer-accepted, accepted-answer}

@@ -3,14 +3,14 @@
 -- Assumes nothing.
 use mathlib.Core.Bool.{Bool, true, false, cond}
 use Prim.Native.Nat.{ℕ, _*_, _^_, _≤_, _<_}
-use native.Mathlib.Nat.{le-trans, le-of-eq, le-refl, lt-of-le-of-lt, mul-le-mul-right}
+use native.Mathlib.Nat.{le-refl, lt-of-le-of-lt}
 use native.Mathlib.Omega.{arith}
 use mathlib.Core.Path.{_≡_, sym}
 use mathlib.Core.Logic.{_≢_}
 use borrow.Author.Tests.{eq-eqb, ne-eqb}
 use lib.Dec.{eqb}
 use Rattle.lists.specs.Sums.{sumTo, when}
-use Rattle.lists.proofs.Sums.{sum-le, sum-const}
+use Rattle.lists.proofs.Sums.{sum-le, sum-at-most}
 use Rattle.tables.specs.declared.Table.{Table}
 use Rattle.tables.specs.declared.Table.the-variants.{Zones, Owners, Units, Accounts, Loads, Reservations}
 use Rattle.tables.specs.Shape.{rows, width, limit, Tables, wordsOf}
@@ -20,18 +20,14 @@ use Rattle.tables.proofs.Promises.{strictly-ascend}
 use Rattle.month.specs.Limits.{mostRate, mostLoad, mostEnergy, mostContributions}
 use Rattle.month.proofs.Months.{InYear, month-within, twelfth-within}
 use Rattle.month.proofs.Quantities as quantities
-use Rattle.settlement.specs.Input.{Input, zoneCount, ownerCount, unitCount}
-use Rattle.settlement.specs.Accounts.{contributions, reserved, curtailed, accountUse}
-use Rattle.settlement.specs.Network.{rateOf, rate, networkCharge}
-use Rattle.settlement.specs.Services.{unitCredit}
+use Rattle.pool.specs.Input.{Input, zoneCount, ownerCount, unitCount}
+use Rattle.pool.specs.Accounts.{contributions, reserved, curtailed, accountUse}
+use Rattle.pool.specs.Network.{rateOf, rate, networkCharge}
+use Rattle.pool.specs.Services.{unitCredit}
 use Rattle.settlement.specs.Accepted.{Good}
-use Rattle.settlement.specs.Steps.{summed, Summable, Settleable}
+use Rattle.pool.specs.Steps.{summed, Summable}
+use Rattle.settlement.specs.Steps.{Settleable}
 use Rattle.settlement.proofs.Keys.{Ascends, entry-of, one-row-at-most, one-row-a-day}
-
--- so many figures, each at most so much
-pub at-most : (n limit most : ℕ) (f : ℕ → ℕ) → n ≤ limit → ((i : ℕ) → i < n → f i ≤ most) → sumTo n f ≤ limit * most
-at-most n limit most f few within =
-    le-trans (sum-le n f (λ i. most) within) (le-trans (le-of-eq (sum-const n most)) (mul-le-mul-right most few))
 
 module _ (m : Input) (lentCharges lentCredits : ℕ) (good : Good m lentCharges lentCredits) where
   open Tables (m .tables) using (zones, owners, units, accounts, loads, reservations)
@@ -143,7 +139,7 @@ module _ (m : Input) (lentCharges lentCredits : ℕ) (good : Good m lentCharges 
         named = named;
         fits =
             lt-of-le-of-lt
-            (at-most (rows table (wordsOf (m .tables) table)) (limit table) most (entry table column (wordsOf (m .tables) table))
+            (sum-at-most (rows table (wordsOf (m .tables) table)) (limit table) most (entry table column (wordsOf (m .tables) table))
             (good .frame .counted table .few) within)
             fits;
       }

@@ -12,7 +12,7 @@ use lib.ListN.{length}
 use borrow.Author.Tests.{eq-eqb}
 use Rattle.lists.specs.Sums.{at, total, when}
 use Rattle.lists.specs.Entries.{listed, put}
-use Rattle.lists.proofs.Sums.{sum-eq}
+use Rattle.lists.proofs.Sums.{sum-eq, sum-at-most}
 use Rattle.lists.proofs.Entries.{length-listed, put-eq, put-long, at-put}
 use Rattle.answer.specs.declared.Answer.{Answer}
 use Rattle.answer.specs.Numbers.{divisions}
@@ -27,13 +27,13 @@ use Rattle.tables.specs.declared.Table.the-variants.{Accounts}
 use Rattle.tables.specs.Shape.{limit, Tables}
 use Rattle.tables.specs.Columns.{zoneNumber, ownerRequirement, accountZone}
 use Rattle.tables.specs.Limits.{blackStart, reactive}
-use Rattle.settlement.specs.Input.{Input, zoneCount, ownerCount, accountCount}
-use Rattle.settlement.specs.Accounts.{contributions, reserved, curtailed, accountUse}
-use Rattle.settlement.specs.Network.{rateOf, rate, networkCharge, chargesIn, networkPots, networkCredit, requirements, nonzoneCredit, nonzoneRefusal}
-use Rattle.settlement.specs.Services.{unitCredit, creditIn, partOf, serviceCredit, zonePot, zonePart, nonzonePart, serviceIn, serviceCharge}
+use Rattle.pool.specs.Input.{Input, zoneCount, ownerCount, accountCount}
+use Rattle.pool.specs.Accounts.{contributions, reserved, curtailed, accountUse}
+use Rattle.pool.specs.Network.{rateOf, rate, networkCharge, chargesIn, networkPots, networkCredit, requirements, nonzoneCredit, nonzoneRefusal}
+use Rattle.pool.specs.Services.{unitCredit, creditIn, partOf, serviceCredit, zonePot, zonePart, nonzonePart, serviceIn, serviceCharge}
 use Rattle.settlement.specs.Settled.{blackStartPlace, reactivePlace, networkInTurn, divisionsInTurn}
-use Rattle.settlement.specs.Steps.{held, accountsInput, unitsInput, Filled, potsFrom, NetworkDivided, Divisible, serviceFrom, Usable, ServiceSettled, Settleable, Holds, ForAccounts, ForOwners, MonthDivided}
-use Rattle.settlement.proofs.Ranges as ranges
+use Rattle.pool.specs.Steps.{held, accountsInput, unitsInput, Filled, potsFrom, NetworkDivided, Divisible, serviceFrom, Usable, ServiceSettled}
+use Rattle.settlement.specs.Steps.{Settleable, Holds, ForAccounts, ForOwners, MonthDivided}
 
 -- a column that n values were stored in holds them
 pub holds : (n : ℕ) (f : ℕ → ℕ) (before column : List ℕ) → column ≡ put n f before → n ≤ length before → Holds n f column
@@ -73,7 +73,7 @@ module _ (m : Input) where
             long = charges .long;
             fits =
                 lt-of-le-of-lt
-                (ranges.at-most (accountCount m) (limit Accounts) (10 ^ 12) (at network) (can .fillable .few)
+                (sum-at-most (accountCount m) (limit Accounts) (10 ^ 12) (at network) (can .fillable .few)
                 (λ a b. le-trans (le-of-eq (charges .words a b)) (can .charge-within a)))
                 (omega arith);
           };

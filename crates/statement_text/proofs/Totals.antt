@@ -10,7 +10,7 @@ use native.Mathlib.Omega.{arith}
 use lib.Arith.{digits-div, digits-mod, digits-lt}
 use lib.Dec.{eqb}
 use Rattle.lists.specs.Sums.{sumTo, at, when}
-use Rattle.lists.proofs.Sums.{sum-eq, sum-swap}
+use Rattle.lists.proofs.Sums.{sum-eq, sum-at-most, sum-swap}
 use Rattle.lists.proofs.Entries.{listed-eq}
 use Rattle.tables.specs.declared.Table.{Table}
 use Rattle.tables.specs.declared.Table.the-variants.{Owners, Units, Accounts}
@@ -18,15 +18,15 @@ use Rattle.tables.specs.Shape.{width, limit, rows, chargeWidth, creditWidth, wo
 use Rattle.tables.specs.Columns.{entry, ownerNumber, unitService, accountNumber}
 use Rattle.tables.specs.Limits.{blackStart, reactive}
 use Rattle.text.specs.Bytes.{bytes}
-use Rattle.settlement.specs.Input.{Input, ownerCount, unitCount, accountCount}
-use Rattle.settlement.specs.Network.{networkCharge}
-use Rattle.settlement.specs.Services.{unitCredit, creditIn, serviceCharge}
+use Rattle.pool.specs.Input.{Input, ownerCount, unitCount, accountCount}
+use Rattle.pool.specs.Network.{networkCharge}
+use Rattle.pool.specs.Services.{unitCredit, creditIn, serviceCharge}
 use Rattle.settlement.specs.Settled.{laid, chargeOf, creditOf}
 use Rattle.settlement.specs.Accepted.{IsService, Accepted}
 use Rattle.settlement.specs.Steps.{Holds}
 use Rattle.settlement.proofs.Accepting.{answer-accepted}
 use Rattle.settlement.proofs.Balance as balance
-use Rattle.settlement.proofs.Ranges.{at-most, charge-within, unit-credit-within}
+use Rattle.settlement.proofs.Ranges.{charge-within, unit-credit-within}
 use Rattle.settlement.proofs.Promises as promises
 use Rattle.statement_text.specs.declared.figures.Figures.{Figures}
 use Rattle.statement_text.specs.Statement.{withNumber, rowsWith, linesText, allCharges, allCredits, statementLines, settledAnswer}
@@ -97,7 +97,7 @@ module _ {m : Input} {lentCharges lentCredits : ℕ} (all : Accepted m lentCharg
       le-trans
       (le-of-eq
       (promises.service-charges-are-credits all s i ∙ balance.owners-have-credits m lentCharges lentCredits (all .good) s))
-      (at-most (unitCount m) 64 (2 * 10 ^ 12) (creditIn m s) (few Units)
+      (sum-at-most (unitCount m) 64 (2 * 10 ^ 12) (creditIn m s) (few Units)
       (λ u b. when-within (eqb (unitService (m .tables .units) u) s) (unitCredit m u) (2 * 10 ^ 12) (unit-credit-within m lentCharges lentCredits (all .good) u b)))
 
   -- the totals are equal, and below 2^64
@@ -110,7 +110,7 @@ module _ {m : Input} {lentCharges lentCredits : ℕ} (all : Accepted m lentCharg
   charges-small =
       omega (
         arith,
-        at-most (accountCount m) 32 (10 ^ 12) (networkCharge m) (few Accounts) (λ a b. charge-within m lentCharges lentCredits (all .good) a),
+        sum-at-most (accountCount m) 32 (10 ^ 12) (networkCharge m) (few Accounts) (λ a b. charge-within m lentCharges lentCredits (all .good) a),
         service-total blackStart (inl refl),
         service-total reactive (inr refl),
       )

@@ -8,7 +8,7 @@ use native.Mathlib.Nat.{le-trans, le-of-eq}
 use Rattle.answer.specs.Turns.{_then_}
 use Rattle.tables.specs.declared.Table.the-variants.{Zones}
 use Rattle.tables.specs.Shape.{limit}
-use Rattle.settlement.specs.Input.{Input, inputOf}
+use Rattle.pool.specs.Input.{Input, inputOf}
 use Rattle.settlement.proofs.Settling.{holds-charges, holds-uses, divisible, usable, month-divided}
 use Rattle.settlement.proofs.divide_month.Statement.{statement}
 use Rattle.settlement.proofs.divide_month.Tie as tie

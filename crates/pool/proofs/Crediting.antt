@@ -1,0 +1,77 @@
+-- The network divisions in turn, and the same for pots that agree.
+-- Assumes nothing.
+use mathlib.Core.Path.{_≡_, sym, ap, ap₂, _∙_}
+use mathlib.Core.Bool.{cond}
+use mathlib.Core.List.{List}
+use Prim.Native.Nat.{ℕ, _+_}
+use native.Mathlib.Nat.{zero-add}
+use lib.Dec.{eqb}
+use lib.ListN.{length}
+use borrow.Author.Tests.{eq-eqb}
+use Rattle.lists.specs.Sums.{at, total}
+use Rattle.lists.specs.Entries.{listed, put}
+use Rattle.lists.proofs.Entries.{put-eq}
+use Rattle.answer.specs.declared.Answer.{Answer}
+use Rattle.answer.specs.Numbers.{divisions}
+use Rattle.answer.specs.Turns.{refuse, _then_}
+use Rattle.answer.proofs.Turns.{then-none, refuse-number}
+use Rattle.division.specs.Limits.{sizeRefusal}
+use Rattle.division.specs.Shares.{shares}
+use Rattle.groups.specs.Groups.{Pots, amounts, potsOf, Grouped}
+use Rattle.groups.specs.Columns.{Added}
+use Rattle.groups.proofs.Same.{Same, same-turn, same-amounts, filled}
+use Rattle.tables.specs.declared.Table.the-variants.{Zones, Owners, Accounts}
+use Rattle.tables.specs.Shape.{rows}
+use Rattle.tables.specs.Columns.{zoneNumber, ownerZone, ownerRequirement}
+use Rattle.pool.specs.Steps.{held, potsFrom, Zeros, NetworkDivided}
+
+-- what is left where nothing is refused
+picked : (n : ℕ) (l k : List ℕ) → n ≡ 0 → cond (eqb n 0) l k ≡ l
+picked n l k e = rw (eq-eqb n 0 e)
+
+module _ {p : Pots} {nonzone : ℕ} {weights credits creditsAfter nonzonecredits nonzonecreditsAfter : List ℕ} {zones second r : Answer} {number : ℕ}
+    (grouped : Grouped p 0 credits creditsAfter zones) (added : Added nonzone weights nonzonecredits nonzonecreditsAfter number)
+    (zeros : Zeros nonzonecredits) (refused : second ≡ refuse number divisions (p .groups)) (both : r ≡ (zones then second)) where
+  pub network-divided : NetworkDivided p nonzone weights credits creditsAfter nonzonecredits nonzonecreditsAfter r
+  network-divided =
+      record {
+        answer = both ∙ ap₂ _then_ (grouped .answers) (refused ∙ ap (λ n. refuse n divisions (p .groups)) (added .number));
+        credited = λ fine. grouped .lent ∙ picked (zones .number) _ credits (accepted fine .0);
+        nonzone-credited = λ fine.
+            added .lent
+            ∙ picked number _ nonzonecredits (sym (ap (λ (a : Answer). a .number) refused ∙ refuse-number number divisions (p .groups)) ∙ accepted fine .1)
+            ∙ put-eq (length weights) _ (at (shares nonzone weights)) nonzonecredits
+            (λ i b. ap (λ n. n + at (shares nonzone weights) i) (zeros i) ∙ zero-add (at (shares nonzone weights) i));
+      }
+    where
+      accepted : r .number ≡ 0 → (zones .number ≡ 0) × (second .number ≡ 0)
+      accepted fine = then-none zones second (ap (λ (a : Answer). a .number) (sym both) ∙ fine)
+
+pub network-same : {p q : Pots} → Same p q → {nonzone : ℕ} {weights credits creditsAfter nonzonecredits nonzonecreditsAfter : List ℕ} {r : Answer}
+    → NetworkDivided p nonzone weights credits creditsAfter nonzonecredits nonzonecreditsAfter r
+    → NetworkDivided q nonzone weights credits creditsAfter nonzonecredits nonzonecreditsAfter r
+network-same {p} {q} s {nonzone} {weights} {credits} {creditsAfter} d =
+    record {
+      answer =
+          d .answer
+          ∙ ap₂ (λ (a : Answer) k. a then refuse (sizeRefusal nonzone (total weights)) divisions k) (same-turn s 0) (s .same-groups);
+      credited = λ fine.
+          d .credited fine
+          ∙ put-eq (p .members) (amounts p) (amounts q) credits (λ i b. same-amounts s i)
+          ∙ ap (λ n. put n (amounts q) credits) (s .same-members);
+      nonzone-credited = d .nonzone-credited;
+    }
+
+-- the network divisions of lists that were filled from the tables and a column of charges
+module _ (zones owners accounts network : List ℕ) {credits creditsAfter nonzonecredits nonzonecreditsAfter : List ℕ} {r : Answer} where
+  pub network-from : {pots numbers weights groups : List ℕ} {nonzone : ℕ}
+      → pots ≡ listed (rows Zones zones) (λ z. held Accounts 2 accounts network (zoneNumber zones z))
+      → numbers ≡ listed (rows Zones zones) (zoneNumber zones)
+      → weights ≡ listed (rows Owners owners) (ownerRequirement owners)
+      → groups ≡ listed (rows Owners owners) (ownerZone owners)
+      → nonzone ≡ held Accounts 2 accounts network 0
+      → NetworkDivided (potsOf pots numbers weights groups) nonzone weights credits creditsAfter nonzonecredits nonzonecreditsAfter r
+      → NetworkDivided (potsFrom zones owners accounts network) (held Accounts 2 accounts network 0)
+      (listed (rows Owners owners) (ownerRequirement owners)) credits creditsAfter nonzonecredits nonzonecreditsAfter r
+  network-from {pots} {numbers} {weights} {groups} {nonzone} e f g h i d =
+      network-same (filled (potsFrom zones owners accounts network)) (rw (e, f, g, h, i) at d)

@@ -1,0 +1,5 @@
+mod Adding
+mod Fronts
+mod Filling
+mod Crediting
+mod Serving

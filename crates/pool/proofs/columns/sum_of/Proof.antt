@@ -1,0 +1,92 @@
+-- `pool::columns::sum_of` meets its contract: the rows passed are added up.
+-- Assumes nothing.
+use mathlib.Core.Path.{_≡_, sym, ap, ap₂, subst, _∙_}
+use Prim.Native.Nat.{ℕ, _-_, _<_, _^_}
+use native.Mathlib.Omega.{arith}
+use lib.Dec.{eqb}
+use Rattle.lists.specs.Sums.{sumTo, when}
+use Rattle.tables.specs.Columns.{entry}
+use Rattle.pool.specs.Steps.{summed}
+use Rattle.pool.proofs.Adding.{Added, added-none, added-on, added-fits, added-all, some-fit}
+use borrow.Author.Needs.{needs}
+use Rattle.pool.proofs.columns.sum_of.Statement.{statement}
+use Rattle.pool.proofs.columns.sum_of.Tie as tie
+
+abbrev Inv-loop : tie.InvT-loop
+Inv-loop table column words number count sum₀ i₀ sum i =
+    Added count (λ j. when (eqb (entry table 0 words j) number) (entry table column words j)) i sum
+
+abbrev μ-loop : tie.MeasureT-loop
+μ-loop table column words number count sum₀ i₀ sum i = count - i
+
+-- the number at hand is the row's
+word : (c : tie.After-when-same Inv-loop μ-loop)
+    → c .when-same .result
+    ≡ (let a = c .before .before .before .before .before .before .before .args in
+    when (eqb (entry (a .table) 0 (a .words .now) (c .before .before .before .before .loop .i)) (a .number))
+    (entry (a .table) (a .column) (a .words .now) (c .before .before .before .before .loop .i)))
+word c =
+    let a = c .before .before .before .before .before .before .before .args in
+    c .when-same .ensures
+    ∙ ap₂ (λ (key x : ℕ). when (eqb key (a .number)) x) (c .before .before .entry .ensures) (c .before .entry2 .ensures)
+
+rows-in-requires : tie.Need-rows-in-requires Inv-loop μ-loop
+rows-in-requires c κs = search needs
+
+loop-holds : tie.Need-loop-holds Inv-loop μ-loop
+loop-holds c = let a = c .before .before .args in added-none (c .rows-in .result) (λ j. when (eqb (entry (a .table) 0 (a .words .now) j) (a .number)) (entry (a .table) (a .column) (a .words .now) j))
+
+entry-requires : tie.Need-entry-requires Inv-loop μ-loop
+entry-requires c κs =
+    (omega (arith, c .before .before .rows-in .ensures), omega (arith, c .before .before .before .before .pre .named))
+
+entry-requires-2 : tie.Need-entry-requires-2 Inv-loop μ-loop
+entry-requires-2 c κs =
+    (omega (arith, c .before .before .before .rows-in .ensures), c .before .before .before .before .before .pre .named)
+
+when-same-requires : tie.Need-when-same-requires Inv-loop μ-loop
+when-same-requires c κs = search needs
+
+add-sum : tie.Need-add-sum Inv-loop μ-loop
+add-sum c =
+    record {
+      fits =
+          added-fits (c .before .before .before .before .loop .inv) _ (c .before .before .before .loop-test .taken) (word c)
+          (let start = c .before .before .before .before .before .before .before in
+          let a = start .args in
+          some-fit _ (λ j. eqb (entry (a .table) 0 (a .words .now) j) (a .number)) (entry (a .table) (a .column) (a .words .now))
+          (subst (λ n. sumTo n (entry (a .table) (a .column) (a .words .now)) < 2 ^ 64) (sym (c .before .before .before .before .before .rows-in .ensures)) (start .pre .fits)));
+    }
+
+add-i : tie.Need-add-i Inv-loop μ-loop
+add-i c = search needs
+
+loop-less : tie.Need-loop-less Inv-loop μ-loop
+loop-less c = search needs
+
+loop-again : tie.Need-loop-again Inv-loop μ-loop
+loop-again c = added-on (c .before .before .before .before .loop .inv) _ (c .before .before .before .loop-test .taken) (word c)
+
+returns : tie.Need-returns Inv-loop μ-loop
+unfolding summed
+returns c =
+    let a = c .before .before .before .before .args in
+    added-all (c .before .loop .inv) (c .loop-test .left)
+    ∙ ap (λ n. sumTo n (λ j. when (eqb (entry (a .table) 0 (a .words .now) j) (a .number)) (entry (a .table) (a .column) (a .words .now) j))) (c .before .before .rows-in .ensures)
+
+pub sum-of-spec : {M : Type 1} → statement M
+sum-of-spec =
+    tie.close
+    (tie.spec
+    Inv-loop
+    μ-loop
+    rows-in-requires
+    loop-holds
+    entry-requires
+    entry-requires-2
+    when-same-requires
+    add-sum
+    add-i
+    loop-less
+    loop-again
+    returns)
