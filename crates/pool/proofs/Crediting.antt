@@ -20,10 +20,10 @@ use Rattle.division.specs.Shares.{shares}
 use Rattle.groups.specs.Groups.{Pots, amounts, potsOf, Grouped}
 use Rattle.groups.specs.Columns.{Added}
 use Rattle.groups.proofs.Same.{Same, same-turn, same-amounts, filled}
-use Rattle.tables.specs.declared.Table.the-variants.{Zones, Owners, Accounts}
+use Rattle.tables.specs.declared.Table.the-variants.{Zones, Owners}
 use Rattle.tables.specs.Shape.{rows}
 use Rattle.tables.specs.Columns.{zoneNumber, ownerZone, ownerRequirement}
-use Rattle.pool.specs.Steps.{held, potsFrom, Zeros, NetworkDivided}
+use Rattle.pool.specs.Steps.{chargesFrom, potsFrom, Zeros, NetworkDivided}
 
 -- what is left where nothing is refused
 picked : (n : ℕ) (l k : List ℕ) → n ≡ 0 → cond (eqb n 0) l k ≡ l
@@ -65,13 +65,13 @@ network-same {p} {q} s {nonzone} {weights} {credits} {creditsAfter} d =
 -- the network divisions of lists that were filled from the tables and a column of charges
 module _ (zones owners accounts network : List ℕ) {credits creditsAfter nonzonecredits nonzonecreditsAfter : List ℕ} {r : Answer} where
   pub network-from : {pots numbers weights groups : List ℕ} {nonzone : ℕ}
-      → pots ≡ listed (rows Zones zones) (λ z. held Accounts 2 accounts network (zoneNumber zones z))
+      → pots ≡ listed (rows Zones zones) (λ z. chargesFrom accounts network (zoneNumber zones z))
       → numbers ≡ listed (rows Zones zones) (zoneNumber zones)
       → weights ≡ listed (rows Owners owners) (ownerRequirement owners)
       → groups ≡ listed (rows Owners owners) (ownerZone owners)
-      → nonzone ≡ held Accounts 2 accounts network 0
+      → nonzone ≡ chargesFrom accounts network 0
       → NetworkDivided (potsOf pots numbers weights groups) nonzone weights credits creditsAfter nonzonecredits nonzonecreditsAfter r
-      → NetworkDivided (potsFrom zones owners accounts network) (held Accounts 2 accounts network 0)
+      → NetworkDivided (potsFrom zones owners accounts network) (chargesFrom accounts network 0)
       (listed (rows Owners owners) (ownerRequirement owners)) credits creditsAfter nonzonecredits nonzonecreditsAfter r
   network-from {pots} {numbers} {weights} {groups} {nonzone} e f g h i d =
       network-same (filled (potsFrom zones owners accounts network)) (rw (e, f, g, h, i) at d)

@@ -2,17 +2,17 @@
 -- is charged over the columns is charged over the month.
 -- Assumes nothing.
 use mathlib.Core.Path.{_≡_, refl, sym, ap, _∙_}
-use mathlib.Core.Bool.{Bool, not}
+use mathlib.Core.Bool.{Bool}
 use mathlib.Core.List.{List, []}
-use Prim.Native.Nat.{ℕ, _*_, _^_, _≤_, _<_}
+use Prim.Native.Nat.{ℕ, _^_, _≤_, _<_}
 use native.Mathlib.Nat.{le-trans, le-of-eq, lt-of-le-of-lt, lt-of-lt-of-le}
 use native.Mathlib.Omega.{arith}
 use lib.Dec.{eqb}
 use lib.ListN.{length, take}
 use lib.Seq.{ext-getD, getD-take, length-take-le}
-use Rattle.lists.specs.Sums.{at, total, when}
+use Rattle.lists.specs.Sums.{sumWhere, at, total, when}
 use Rattle.lists.specs.Entries.{listed, put}
-use Rattle.lists.proofs.Sums.{sum-eq, sum-at-most, when-le}
+use Rattle.lists.proofs.Sums.{sum-at-most, when-le, where-eq}
 use Rattle.lists.proofs.Entries.{length-listed, at-listed, total-listed, put-eq, put-long, at-put}
 use Rattle.answer.specs.declared.Answer.{Answer}
 use Rattle.service.specs.Service.{serviceOf}
@@ -22,8 +22,8 @@ use Rattle.month.proofs.Months.{twelfth-within}
 use Rattle.tables.specs.declared.Table.the-variants.{Zones, Owners, Units, Accounts}
 use Rattle.tables.specs.Shape.{rows, limit}
 use Rattle.tables.specs.Columns.{zoneNumber, ownerNumber, unitOwner, unitZone, unitService, unitRequirement, accountZone}
-use Rattle.pool.specs.Services.{unitCredit, creditIn, partOf, serviceCredit, zonePot}
-use Rattle.pool.specs.Steps.{held, unitsInput, poolFrom, Holdable, Creditable, Credited, Usable}
+use Rattle.pool.specs.Services.{unitCredit, creditIn, serviceCredit, zonePot}
+use Rattle.pool.specs.Steps.{unitsInput, zonePartFrom, nonzonePartFrom, poolFrom, Summable, mostUse, mostCredit, Creditable, Credited, Usable}
 
 -- the first words of a list, listed
 pub take-listed : (n : ℕ) (l : List ℕ) → n ≤ length l → take n l ≡ listed n (at l)
@@ -53,7 +53,7 @@ module _ (month : ℕ) (zones owners units : List ℕ) (can : Creditable (unitsI
     holds-credits u b =
         ap (λ l. at l u) stored ∙ at-put (rows Units units) (creditIn (unitsInput month [] [] units) s) before long u b
 
-    credit-within : (u : ℕ) → u < rows Units units → at column u ≤ 2 * 10 ^ 12
+    credit-within : (u : ℕ) → u < rows Units units → at column u ≤ mostCredit
     unfolding creditIn unitCredit
     credit-within u b =
         let is : at column u ≡ creditIn (unitsInput month zones owners units) s u = holds-credits u b in
@@ -65,31 +65,26 @@ module _ (month : ℕ) (zones owners units : List ℕ) (can : Creditable (unitsI
           can .reserve-within u b,
         )
 
-    pub credits-holdable : (k : ℕ) → k < 6 → Holdable Units k units column
-    credits-holdable k named =
+    pub credits-summable : Summable (rows Units units) column
+    credits-summable =
         record {
-          named = named;
           long = le-trans long (le-of-eq (sym (put-long (rows Units units) _ before stored)));
-          fits = lt-of-le-of-lt (sum-at-most (rows Units units) (limit Units) (2 * 10 ^ 12) (at column) (can .few-units) credit-within) (omega arith);
+          fits = lt-of-le-of-lt (sum-at-most (rows Units units) (limit Units) mostCredit (at column) (can .few-units) credit-within) (omega arith);
         }
 
     pub credited : (pots potsAfter credits creditsAfter : List ℕ)
-        → potsAfter ≡ put (rows Zones zones) (λ z. held Units 2 units column (zoneNumber zones z)) pots
-        → creditsAfter ≡ put (rows Owners owners) (λ o. held Units 1 units column (ownerNumber owners o)) credits
+        → potsAfter ≡ put (rows Zones zones) (λ z. sumWhere (rows Units units) (unitZone units) (at column) (zoneNumber zones z)) pots
+        → creditsAfter ≡ put (rows Owners owners) (λ o. sumWhere (rows Units units) (unitOwner units) (at column) (ownerNumber owners o)) credits
         → Credited (unitsInput month zones owners units) s pots potsAfter credits creditsAfter
-    unfolding held zonePot serviceCredit partOf
+    unfolding zonePot serviceCredit
     credited pots potsAfter credits creditsAfter e f =
         record {
           pots-lent =
               e ∙ put-eq (rows Zones zones) _ (zonePot (unitsInput month zones owners units) s) pots
-              (λ z b.
-              sum-eq (rows Units units) _ _
-              (λ u h. ap (when (eqb (unitZone units u) (zoneNumber zones z))) (holds-credits u h)));
+              (λ z b. where-eq (rows Units units) (unitZone units) (at column) (zoneNumber zones z) _ (λ u h q. holds-credits u h));
           credits-lent =
               f ∙ put-eq (rows Owners owners) _ (serviceCredit (unitsInput month zones owners units) s) credits
-              (λ o b.
-              sum-eq (rows Units units) _ _
-              (λ u h. ap (when (eqb (unitOwner units u) (ownerNumber owners o))) (holds-credits u h)));
+              (λ o b. where-eq (rows Units units) (unitOwner units) (at column) (ownerNumber owners o) _ (λ u h q. holds-credits u h));
         }
 
 -- the parts of use of all accounts add up to a word
@@ -98,7 +93,7 @@ module _ (accounts uses : List ℕ) (usable : Usable accounts uses) (test : ℕ 
   parts-fit =
       lt-of-le-of-lt
       (le-trans (le-of-eq (total-listed (rows Accounts accounts) _))
-      (sum-at-most (rows Accounts accounts) (limit Accounts) (2 * 10 ^ 9) (λ a. when (test a) (at uses a)) (usable .few)
+      (sum-at-most (rows Accounts accounts) (limit Accounts) mostUse (λ a. when (test a) (at uses a)) (usable .few)
       (λ a b. le-trans (when-le (test a) (at uses a)) (usable .within a b))))
       (omega arith)
 
@@ -107,8 +102,8 @@ module _ (zones accounts uses : List ℕ) (pot : ℕ → ℕ) (place : ℕ) {bef
   pub served-from : {pots numbers zoneparts nonzoneparts accountzones : List ℕ}
       → pots ≡ listed (rows Zones zones) pot
       → numbers ≡ listed (rows Zones zones) (zoneNumber zones)
-      → zoneparts ≡ listed (rows Accounts accounts) (λ a. when (not (eqb (accountZone accounts a) 0)) (at uses a))
-      → nonzoneparts ≡ listed (rows Accounts accounts) (λ a. when (eqb (accountZone accounts a) 0) (at uses a))
+      → zoneparts ≡ listed (rows Accounts accounts) (zonePartFrom accounts uses)
+      → nonzoneparts ≡ listed (rows Accounts accounts) (nonzonePartFrom accounts uses)
       → accountzones ≡ listed (rows Accounts accounts) (accountZone accounts)
       → Served (serviceOf pots numbers zoneparts nonzoneparts accountzones) place before after r
       → Served (poolFrom zones accounts uses pot) place before after r

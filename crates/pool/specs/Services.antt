@@ -3,7 +3,7 @@
 use Prim.Native.Nat.{ℕ, _+_}
 use mathlib.Core.Bool.{not}
 use lib.Dec.{eqb}
-use Rattle.lists.specs.Sums.{sumTo, when}
+use Rattle.lists.specs.Sums.{sumWhere, when}
 use Rattle.tables.specs.Shape.{Tables}
 use Rattle.tables.specs.Columns.{
   zoneNumber,
@@ -28,30 +28,26 @@ module _ (m : Input) where
   unfoldable pub unitCredit : ℕ → ℕ
   unitCredit u = twelfth (m .month) (unitRequirement units u) + unitReserve units u
 
-  -- "The owner is credited with the sum": what owner o has of an amount of unit u
-  unfoldable pub partOf : ℕ → ℕ → ℕ → ℕ
-  partOf o u amount = when (eqb (unitOwner units u) (ownerNumber owners o)) amount
+  -- "Zone use is the use of all accounts outside zone 0 .."
+  unfoldable pub zonePart : ℕ → ℕ
+  zonePart a = when (not (eqb (accountZone accounts a) 0)) (accountUse m a)
+
+  -- ".. non-zone use is that of zone 0"
+  unfoldable pub nonzonePart : ℕ → ℕ
+  nonzonePart a = when (eqb (accountZone accounts a) 0) (accountUse m a)
 
   module _ (s : ℕ) where
     -- "For each service": the credit of unit u, where it is one of this service
     unfoldable pub creditIn : ℕ → ℕ
     creditIn u = when (eqb (unitService units u) s) (unitCredit u)
 
-    -- what owner o has of all units of this service
+    -- "The owner is credited with the sum": what owner o has of all units of this service
     unfoldable pub serviceCredit : ℕ → ℕ
-    serviceCredit o = sumTo (unitCount m) (λ u. partOf o u (creditIn u))
+    serviceCredit o = sumWhere (unitCount m) (unitOwner units) creditIn (ownerNumber owners o)
 
     -- "a zone's pot is the sum of its units' credits"
     unfoldable pub zonePot : ℕ → ℕ
-    zonePot z = sumTo (unitCount m) (λ u. when (eqb (unitZone units u) (zoneNumber zones z)) (creditIn u))
-
-    -- "Zone use is the use of all accounts outside zone 0 .."
-    unfoldable pub zonePart : ℕ → ℕ
-    zonePart a = when (not (eqb (accountZone accounts a) 0)) (accountUse m a)
-
-    -- ".. non-zone use is that of zone 0"
-    unfoldable pub nonzonePart : ℕ → ℕ
-    nonzonePart a = when (eqb (accountZone accounts a) 0) (accountUse m a)
+    zonePot z = sumWhere (unitCount m) (unitZone units) creditIn (zoneNumber zones z)
 
     -- the service: each account's zone and its two parts, each zone's number and pot
     abbrev pub serviceIn : Service

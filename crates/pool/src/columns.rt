@@ -3,11 +3,11 @@ ghost use mathlib.Core.Path.{_≡_};
 ghost use Prim.Native.Nat.{_≤_, _<_};
 ghost use lib.Dec.{eqb};
 ghost use lib.ListN.{length};
-ghost use Rattle.lists.specs.Sums.{when};
+ghost use Rattle.lists.specs.Sums.{when, sumWhere, at};
 ghost use Rattle.lists.specs.Entries.{put};
 ghost use Rattle.tables.specs.Shape.{width, rows};
 ghost use Rattle.tables.specs.Columns.{entry};
-ghost use Rattle.pool.specs.Steps.{summed, held, Summable, Holdable};
+ghost use Rattle.pool.specs.Steps.{Fit, Summable};
 use tables::Table;
 use tables::columns::entry;
 
@@ -36,8 +36,8 @@ pub fn copy(table: Table, column: usize, words: &[u64], out: &mut [u64])
 
 // A column of the rows that begin with a number, added up.
 pub fn sum_of(table: Table, column: usize, words: &[u64], number: u64) -> u64
-    requires { ⌜ Summable table column (now words) ⌝ }
-    ensures { λ r. ⌜ r ≡ summed table column (now (words .entry)) number ⌝ }
+    requires { ⌜ (column < width table) × Fit (rows table (now words)) (entry table column (now words)) ⌝ }
+    ensures { λ r. ⌜ r ≡ sumWhere (rows table (now (words .entry))) (entry table 0 (now (words .entry))) (entry table column (now (words .entry))) number ⌝ }
 {
     let count = tables::rows_in(table, words.len());
     let mut sum = 0;
@@ -62,8 +62,9 @@ pub fn sums_of(
     names: &[u64],
     out: &mut [u64],
 )
-    requires { ⌜ Summable table column (now words) × (rows named (now names) ≤ length (now out)) ⌝ }
-    ensures { λ r. ⌜ now (out .exit) ≡ put (rows named (now (names .entry))) (λ i. summed table column (now (words .entry)) (entry named 0 (now (names .entry)) i)) (now (out .entry)) ⌝ }
+    requires { ⌜ (column < width table) × Fit (rows table (now words)) (entry table column (now words)) ⌝ }
+    requires { ⌜ rows named (now names) ≤ length (now out) ⌝ }
+    ensures { λ r. ⌜ now (out .exit) ≡ put (rows named (now (names .entry))) (λ i. sumWhere (rows table (now (words .entry))) (entry table 0 (now (words .entry))) (entry table column (now (words .entry))) (entry named 0 (now (names .entry)) i)) (now (out .entry)) ⌝ }
 {
     let count = tables::rows_in(named, names.len());
     let mut i = 0;
@@ -75,8 +76,8 @@ pub fn sums_of(
 
 // The values, one for each row of a table, of the rows that have a number in a column, added up.
 pub fn sum_in(table: Table, column: usize, words: &[u64], values: &[u64], number: u64) -> u64
-    requires { ⌜ Holdable table column (now words) (now values) ⌝ }
-    ensures { λ r. ⌜ r ≡ held table column (now (words .entry)) (now (values .entry)) number ⌝ }
+    requires { ⌜ (column < width table) × Summable (rows table (now words)) (now values) ⌝ }
+    ensures { λ r. ⌜ r ≡ sumWhere (rows table (now (words .entry))) (entry table column (now (words .entry))) (at (now (values .entry))) number ⌝ }
 {
     let count = tables::rows_in(table, words.len());
     let mut sum = 0;
@@ -98,8 +99,9 @@ pub fn sums_in(
     names: &[u64],
     out: &mut [u64],
 )
-    requires { ⌜ Holdable table column (now words) (now values) × (rows named (now names) ≤ length (now out)) ⌝ }
-    ensures { λ r. ⌜ now (out .exit) ≡ put (rows named (now (names .entry))) (λ i. held table column (now (words .entry)) (now (values .entry)) (entry named 0 (now (names .entry)) i)) (now (out .entry)) ⌝ }
+    requires { ⌜ (column < width table) × Summable (rows table (now words)) (now values) ⌝ }
+    requires { ⌜ rows named (now names) ≤ length (now out) ⌝ }
+    ensures { λ r. ⌜ now (out .exit) ≡ put (rows named (now (names .entry))) (λ i. sumWhere (rows table (now (words .entry))) (entry table column (now (words .entry))) (at (now (values .entry))) (entry named 0 (now (names .entry)) i)) (now (out .entry)) ⌝ }
 {
     let count = tables::rows_in(named, names.len());
     let mut i = 0;

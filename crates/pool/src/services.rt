@@ -9,7 +9,7 @@ ghost use Rattle.lists.specs.Sums.{at, when};
 ghost use Rattle.lists.specs.Entries.{put};
 ghost use Rattle.service.specs.Turn.{Served};
 ghost use Rattle.tables.specs.declared.Table.the-variants.{Zones, Owners, Units, Accounts};
-ghost use Rattle.tables.specs.Shape.{rows};
+ghost use Rattle.tables.specs.Shape.{rows, limit};
 ghost use Rattle.pool.specs.Services.{creditIn};
 ghost use Rattle.pool.specs.Steps.{unitsInput, serviceFrom, poolFrom, Creditable, Credited, Usable, PartsFilled, ServiceSettled};
 use crate::columns;
@@ -119,7 +119,7 @@ fn charge(
     column: &mut [u64],
     place: u64,
 ) -> Answer
-    requires { ⌜ Usable (now accounts) (now uses) × (rows Zones (now zones) ≤ 16) × (place < 2 ^ 32) ⌝ }
+    requires { ⌜ Usable (now accounts) (now uses) × (rows Zones (now zones) ≤ limit Zones) × (place + 2 * rows Zones (now zones) < 2 ^ 64) ⌝ }
     requires { ⌜ (rows Zones (now zones) ≤ length (now pots)) × (rows Zones (now zones) ≤ length (now numbers)) × (rows Accounts (now accounts) ≤ length (now accountzones)) ⌝ }
     requires { ⌜ (rows Accounts (now accounts) ≤ length (now zoneparts)) × (rows Accounts (now accounts) ≤ length (now nonzoneparts)) × (rows Accounts (now accounts) ≤ length (now column)) ⌝ }
     ensures { λ r. ⌜ Served (poolFrom (now (zones .entry)) (now (accounts .entry)) (now (uses .entry)) (at (now (pots .entry)))) place (now (column .entry)) (now (column .exit)) r ⌝ }
@@ -154,7 +154,7 @@ pub fn settle(
     credits: &mut [u64],
     place: u64,
 ) -> Answer
-    requires { ⌜ Creditable (unitsInput (month .number) (now zones) (now owners) (now units)) × Usable (now accounts) (now uses) × (place < 2 ^ 32) ⌝ }
+    requires { ⌜ Creditable (unitsInput (month .number) (now zones) (now owners) (now units)) × Usable (now accounts) (now uses) × (place + 2 * rows Zones (now zones) < 2 ^ 64) ⌝ }
     requires { ⌜ (rows Accounts (now accounts) ≤ length (now charges)) × (rows Owners (now owners) ≤ length (now credits)) ⌝ }
     ensures { λ r. ⌜ ServiceSettled (unitsInput (month .number) (now (zones .entry)) (now (owners .entry)) (now (units .entry))) (now (accounts .entry)) (now (uses .entry)) service place (now (charges .entry)) (now (charges .exit)) (now (credits .entry)) (now (credits .exit)) r ⌝ }
 {

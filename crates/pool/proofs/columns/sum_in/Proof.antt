@@ -4,9 +4,8 @@ use mathlib.Core.Path.{_≡_, sym, ap, subst, _∙_}
 use Prim.Native.Nat.{ℕ, _-_, _<_, _^_}
 use native.Mathlib.Omega.{arith}
 use lib.Dec.{eqb}
-use Rattle.lists.specs.Sums.{sumTo, at, when}
+use Rattle.lists.specs.Sums.{sumTo, at, when, sumWhere}
 use Rattle.tables.specs.Columns.{entry}
-use Rattle.pool.specs.Steps.{held}
 use Rattle.pool.proofs.Adding.{Added, added-none, added-on, added-fits, added-all, some-fit}
 use borrow.Author.Needs.{needs}
 use Rattle.pool.proofs.columns.sum_in.Statement.{statement}
@@ -39,14 +38,14 @@ loop-holds c = let a = c .before .before .before .args in added-none (c .rows-in
 
 entry-requires : tie.Need-entry-requires Inv-loop μ-loop
 entry-requires c κs =
-    (omega (arith, c .before .before .rows-in .ensures), c .before .before .before .before .before .pre .named)
+    (omega (arith, c .before .before .rows-in .ensures), c .before .before .before .before .before .pre .0)
 
 mul-when-same : tie.Need-mul-when-same Inv-loop μ-loop
 mul-when-same c = search needs
 
 shared-slice-read-when-same : tie.Need-shared-slice-read-when-same Inv-loop μ-loop
 shared-slice-read-when-same c =
-    omega (arith, c .before .before .before .before .rows-in .ensures, c .before .before .before .before .before .before .before .pre .long)
+    omega (arith, c .before .before .before .before .rows-in .ensures, c .before .before .before .before .before .before .before .pre .1 .long)
 
 when-same-requires : tie.Need-when-same-requires Inv-loop μ-loop
 when-same-requires c κs = search needs
@@ -59,7 +58,7 @@ add-sum c =
           (let start = c .before .before .before .before .before .before .before .before in
           let a = start .args in
           some-fit _ (λ j. eqb (entry (a .table) (a .column) (a .words .now) j) (a .number)) (at (a .values .now))
-          (subst (λ n. sumTo n (at (a .values .now)) < 2 ^ 64) (sym (c .before .before .before .before .before .rows-in .ensures)) (start .pre .fits)));
+          (subst (λ n. sumTo n (at (a .values .now)) < 2 ^ 64) (sym (c .before .before .before .before .before .rows-in .ensures)) (start .pre .1 .fits)));
     }
 
 add-i : tie.Need-add-i Inv-loop μ-loop
@@ -72,7 +71,7 @@ loop-again : tie.Need-loop-again Inv-loop μ-loop
 loop-again c = added-on (c .before .before .before .before .loop .inv) _ (c .before .before .before .loop-test .taken) (word c)
 
 returns : tie.Need-returns Inv-loop μ-loop
-unfolding held
+unfolding sumWhere
 returns c =
     let a = c .before .before .before .before .before .args in
     added-all (c .before .loop .inv) (c .loop-test .left)

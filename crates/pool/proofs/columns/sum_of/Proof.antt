@@ -4,9 +4,8 @@ use mathlib.Core.Path.{_≡_, sym, ap, ap₂, subst, _∙_}
 use Prim.Native.Nat.{ℕ, _-_, _<_, _^_}
 use native.Mathlib.Omega.{arith}
 use lib.Dec.{eqb}
-use Rattle.lists.specs.Sums.{sumTo, when}
+use Rattle.lists.specs.Sums.{sumTo, when, sumWhere}
 use Rattle.tables.specs.Columns.{entry}
-use Rattle.pool.specs.Steps.{summed}
 use Rattle.pool.proofs.Adding.{Added, added-none, added-on, added-fits, added-all, some-fit}
 use borrow.Author.Needs.{needs}
 use Rattle.pool.proofs.columns.sum_of.Statement.{statement}
@@ -38,11 +37,11 @@ loop-holds c = let a = c .before .before .args in added-none (c .rows-in .result
 
 entry-requires : tie.Need-entry-requires Inv-loop μ-loop
 entry-requires c κs =
-    (omega (arith, c .before .before .rows-in .ensures), omega (arith, c .before .before .before .before .pre .named))
+    (omega (arith, c .before .before .rows-in .ensures), omega (arith, c .before .before .before .before .pre .0))
 
 entry-requires-2 : tie.Need-entry-requires-2 Inv-loop μ-loop
 entry-requires-2 c κs =
-    (omega (arith, c .before .before .before .rows-in .ensures), c .before .before .before .before .before .pre .named)
+    (omega (arith, c .before .before .before .rows-in .ensures), c .before .before .before .before .before .pre .0)
 
 when-same-requires : tie.Need-when-same-requires Inv-loop μ-loop
 when-same-requires c κs = search needs
@@ -55,7 +54,7 @@ add-sum c =
           (let start = c .before .before .before .before .before .before .before in
           let a = start .args in
           some-fit _ (λ j. eqb (entry (a .table) 0 (a .words .now) j) (a .number)) (entry (a .table) (a .column) (a .words .now))
-          (subst (λ n. sumTo n (entry (a .table) (a .column) (a .words .now)) < 2 ^ 64) (sym (c .before .before .before .before .before .rows-in .ensures)) (start .pre .fits)));
+          (subst (λ n. sumTo n (entry (a .table) (a .column) (a .words .now)) < 2 ^ 64) (sym (c .before .before .before .before .before .rows-in .ensures)) (start .pre .1)));
     }
 
 add-i : tie.Need-add-i Inv-loop μ-loop
@@ -68,7 +67,7 @@ loop-again : tie.Need-loop-again Inv-loop μ-loop
 loop-again c = added-on (c .before .before .before .before .loop .inv) _ (c .before .before .before .loop-test .taken) (word c)
 
 returns : tie.Need-returns Inv-loop μ-loop
-unfolding summed
+unfolding sumWhere
 returns c =
     let a = c .before .before .before .before .args in
     added-all (c .before .loop .inv) (c .loop-test .left)

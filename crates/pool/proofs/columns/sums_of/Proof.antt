@@ -3,18 +3,19 @@
 use mathlib.Core.Path.{ap, _∙_}
 use Prim.Native.Nat.{_-_}
 use native.Mathlib.Omega.{arith}
+use Rattle.lists.specs.Sums.{sumWhere}
 use Rattle.lists.specs.Entries.{put}
+use Rattle.tables.specs.Shape.{rows}
 use Rattle.tables.specs.Columns.{entry}
 use Rattle.tables.proofs.Places.{width-pos}
 use Rattle.groups.proofs.Storing.{Stored, stored-start, stored-long, stored-on, stored-end}
-use Rattle.pool.specs.Steps.{summed}
 use borrow.Author.Needs.{needs}
 use Rattle.pool.proofs.columns.sums_of.Statement.{statement}
 use Rattle.pool.proofs.columns.sums_of.Tie as tie
 
 abbrev Inv-loop : tie.InvT-loop
 Inv-loop table column words named names out₀ count i₀ out i =
-    Stored count (λ j. summed table column words (entry named 0 names j)) out₀ i out
+    Stored count (λ j. sumWhere (rows table words) (entry table 0 words) (entry table column words) (entry named 0 names j)) out₀ i out
 
 abbrev μ-loop : tie.MeasureT-loop
 μ-loop table column words named names out₀ count i₀ out i = count - i
@@ -25,7 +26,7 @@ rows-in-requires c κs = search needs
 loop-holds : tie.Need-loop-holds Inv-loop μ-loop
 loop-holds c =
     let a = c .before .before .before .before .args in
-    stored-start (c .rows-in .result) (λ j. summed (a .table) (a .column) (a .words .now) (entry (a .named) 0 (a .names .now) j)) (a .out .now)
+    stored-start (c .rows-in .result) (λ j. sumWhere (rows (a .table) (a .words .now)) (entry (a .table) 0 (a .words .now)) (entry (a .table) (a .column) (a .words .now)) (entry (a .named) 0 (a .names .now) j)) (a .out .now)
 
 entry-requires : tie.Need-entry-requires Inv-loop μ-loop
 entry-requires c κs = (omega (arith, c .before .before .rows-in .ensures), width-pos (c .before .before .before .before .before .before .args .named))
@@ -50,7 +51,7 @@ loop-again : tie.Need-loop-again Inv-loop μ-loop
 loop-again c =
     let a = c .before .before .before .before .before .before .before .before .args in
     stored-on (c .before .before .before .loop .inv) _ (c .before .before .loop-test .taken)
-    (c .sum-of .ensures ∙ ap (summed (a .table) (a .column) (a .words .now)) (c .before .entry .ensures))
+    (c .sum-of .ensures ∙ ap (sumWhere (rows (a .table) (a .words .now)) (entry (a .table) 0 (a .words .now)) (entry (a .table) (a .column) (a .words .now))) (c .before .entry .ensures))
 
 same-length : tie.Need-same-length Inv-loop μ-loop
 same-length c = stored-long (c .before .loop .inv)
@@ -59,7 +60,7 @@ returns : tie.Need-returns Inv-loop μ-loop
 returns c =
     let a = c .before .before .before .before .before .before .args in
     stored-end (c .before .loop .inv) (c .loop-test .left)
-    ∙ ap (λ n. put n (λ j. summed (a .table) (a .column) (a .words .now) (entry (a .named) 0 (a .names .now) j)) (a .out .now)) (c .before .before .rows-in .ensures)
+    ∙ ap (λ n. put n (λ j. sumWhere (rows (a .table) (a .words .now)) (entry (a .table) 0 (a .words .now)) (entry (a .table) (a .column) (a .words .now)) (entry (a .named) 0 (a .names .now) j)) (a .out .now)) (c .before .before .rows-in .ensures)
 
 pub sums-of-spec : {M : Type 1} → statement M
 sums-of-spec =

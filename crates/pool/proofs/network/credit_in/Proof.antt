@@ -17,7 +17,7 @@ copy-requires : tie.Need-copy-requires
 copy-requires c κs = (omega arith, c .before .before .before .before .before .before .before .before .before .before .before .before .before .pre .1 .0 .0)
 
 sums-in-requires : tie.Need-sums-in-requires
-sums-in-requires c κs = (c .before .before .before .before .before .before .before .before .before .before .before .before .before .before .before .before .before .pre .0 .charges, c .before .before .before .before .before .before .before .before .before .before .before .before .before .before .before .before .before .pre .1 .0 .1)
+sums-in-requires c κs = ((omega arith, c .before .before .before .before .before .before .before .before .before .before .before .before .before .before .before .before .before .pre .0 .charges), c .before .before .before .before .before .before .before .before .before .before .before .before .before .before .before .before .before .pre .1 .0 .1)
 
 copy-requires-2 : tie.Need-copy-requires-2
 copy-requires-2 c κs = (omega arith, c .before .before .before .before .before .before .before .before .before .before .before .before .before .before .before .before .before .before .before .before .before .pre .1 .1 .0 .0)
@@ -26,7 +26,7 @@ copy-requires-3 : tie.Need-copy-requires-3
 copy-requires-3 c κs = (omega arith, c .before .before .before .before .before .before .before .before .before .before .before .before .before .before .before .before .before .before .before .before .before .before .before .before .before .pre .1 .1 .0 .1)
 
 sum-in-requires : tie.Need-sum-in-requires
-sum-in-requires c κs = c .before .before .before .before .before .before .before .before .before .before .before .before .before .before .before .before .before .before .before .before .before .before .before .before .before .before .before .before .pre .0 .charges
+sum-in-requires c κs = (omega arith, c .before .before .before .before .before .before .before .before .before .before .before .before .before .before .before .before .before .before .before .before .before .before .before .before .before .before .before .before .pre .0 .charges)
 
 slice-reshare-prefix-divide : tie.Need-slice-reshare-prefix-divide
 slice-reshare-prefix-divide c = front-within _ _ _ (c .before .before .before .before .before .before .before .before .before .before .before .sums-in .ensures) (c .before .before .before .before .before .before .before .before .before .before .before .before .before .before .before .before .before .before .before .before .before .before .before .before .before .before .before .before .before .pre .1 .0 .1) (c .before .before .before .before .before .before .before .before .before .before .before .before .before .before .before .before .before .before .rows-in .ensures)

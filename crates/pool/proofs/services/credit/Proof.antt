@@ -1,7 +1,7 @@
 -- `pool::services::credit` meets its contract: the column between holds the units' credits.
 -- Assumes nothing.
 use native.Mathlib.Omega.{arith}
-use Rattle.pool.proofs.Serving.{creditable-alone, credits-holdable, credited}
+use Rattle.pool.proofs.Serving.{creditable-alone, credits-summable, credited}
 use borrow.Author.Needs.{needs}
 use Rattle.pool.proofs.services.credit.Statement.{statement}
 use Rattle.pool.proofs.services.credit.Tie as tie
@@ -16,13 +16,13 @@ sums-in-requires : tie.Need-sums-in-requires
 sums-in-requires c κs =
     let start = c .before .before .before .before .before .before .before .before .before .before .before .before in
     let a = start .args in
-    (credits-holdable (a .month .number) (a .zones .now) (a .owners .now) (a .units .now) (start .pre .0) (a .service) (a .unitcredits .now) _ (start .pre .1 .0) (c .before .before .before .before .fill-credits .ensures) 2 (omega arith), start .pre .1 .1)
+    ((omega arith, credits-summable (a .month .number) (a .zones .now) (a .owners .now) (a .units .now) (start .pre .0) (a .service) (a .unitcredits .now) _ (start .pre .1 .0) (c .before .before .before .before .fill-credits .ensures)), start .pre .1 .1)
 
 sums-in-requires-2 : tie.Need-sums-in-requires-2
 sums-in-requires-2 c κs =
     let start = c .before .before .before .before .before .before .before .before .before .before .before .before .before .before .before .before .before in
     let a = start .args in
-    (credits-holdable (a .month .number) (a .zones .now) (a .owners .now) (a .units .now) (start .pre .0) (a .service) (a .unitcredits .now) _ (start .pre .1 .0) (c .before .before .before .before .before .before .before .before .before .fill-credits .ensures) 1 (omega arith), start .pre .1 .2)
+    ((omega arith, credits-summable (a .month .number) (a .zones .now) (a .owners .now) (a .units .now) (start .pre .0) (a .service) (a .unitcredits .now) _ (start .pre .1 .0) (c .before .before .before .before .before .before .before .before .before .fill-credits .ensures)), start .pre .1 .2)
 
 same-length : tie.Need-same-length
 same-length c = search needs

@@ -7,16 +7,16 @@ use native.Mathlib.Omega.{arith}
 use lib.Dec.{eqb}
 use Rattle.lists.specs.Sums.{at, when}
 use Rattle.lists.specs.Entries.{put}
-use Rattle.tables.specs.Columns.{accountZone}
 use Rattle.groups.proofs.Storing.{Stored, stored-start, stored-long, stored-on, stored-end}
+use Rattle.pool.specs.Steps.{zonePartFrom, nonzonePartFrom}
 use borrow.Author.Needs.{needs}
 use Rattle.pool.proofs.services.fill_parts.Statement.{statement}
 use Rattle.pool.proofs.services.fill_parts.Tie as tie
 
 abbrev Inv-loop : tie.InvT-loop
 Inv-loop accounts uses zoneparts₀ nonzoneparts₀ count i₀ zoneparts nonzoneparts i =
-    Stored count (λ j. when (not (eqb (accountZone accounts j) 0)) (at uses j)) zoneparts₀ i zoneparts
-    × Stored count (λ j. when (eqb (accountZone accounts j) 0) (at uses j)) nonzoneparts₀ i nonzoneparts
+    Stored count (zonePartFrom accounts uses) zoneparts₀ i zoneparts
+    × Stored count (nonzonePartFrom accounts uses) nonzoneparts₀ i nonzoneparts
 
 abbrev μ-loop : tie.MeasureT-loop
 μ-loop accounts uses zoneparts₀ nonzoneparts₀ count i₀ zoneparts nonzoneparts i = count - i
@@ -27,7 +27,7 @@ rows-in-requires c κs = search needs
 loop-holds : tie.Need-loop-holds Inv-loop μ-loop
 loop-holds c =
     let a = c .before .before .before .before .before .args in
-    (stored-start (c .rows-in .result) (λ j. when (not (eqb (accountZone (a .accounts .now) j) 0)) (at (a .uses .now) j)) (a .zoneparts .now), stored-start (c .rows-in .result) (λ j. when (eqb (accountZone (a .accounts .now) j) 0) (at (a .uses .now) j)) (a .nonzoneparts .now))
+    (stored-start (c .rows-in .result) (zonePartFrom (a .accounts .now) (a .uses .now)) (a .zoneparts .now), stored-start (c .rows-in .result) (nonzonePartFrom (a .accounts .now) (a .uses .now)) (a .nonzoneparts .now))
 
 account-zone-requires : tie.Need-account-zone-requires Inv-loop μ-loop
 account-zone-requires c κs = omega (arith, c .before .before .rows-in .ensures)
@@ -88,8 +88,8 @@ returns : tie.Need-returns Inv-loop μ-loop
 returns c =
     let a = c .before .before .before .before .before .before .before .args in
     record {
-      zone-parts = stored-end (c .before .loop .inv .0) (c .loop-test .left) ∙ ap (λ n. put n (λ j. when (not (eqb (accountZone (a .accounts .now) j) 0)) (at (a .uses .now) j)) (a .zoneparts .now)) (c .before .before .rows-in .ensures);
-      nonzone-parts = stored-end (c .before .loop .inv .1) (c .loop-test .left) ∙ ap (λ n. put n (λ j. when (eqb (accountZone (a .accounts .now) j) 0) (at (a .uses .now) j)) (a .nonzoneparts .now)) (c .before .before .rows-in .ensures);
+      zone-parts = stored-end (c .before .loop .inv .0) (c .loop-test .left) ∙ ap (λ n. put n (zonePartFrom (a .accounts .now) (a .uses .now)) (a .zoneparts .now)) (c .before .before .rows-in .ensures);
+      nonzone-parts = stored-end (c .before .loop .inv .1) (c .loop-test .left) ∙ ap (λ n. put n (nonzonePartFrom (a .accounts .now) (a .uses .now)) (a .nonzoneparts .now)) (c .before .before .rows-in .ensures);
     }
 
 pub fill-parts-spec : {M : Type 1} → statement M
