@@ -57,6 +57,7 @@ fn divide_month(
         networkcredits,
         nonzonecredits,
     );
+    // With k zones the network has k + 1 divisions, so black start's begin at k + 1; it has 2k + 1, so reactive's begin at 3k + 2.
     let second = services::settle(
         BLACK_START,
         month,

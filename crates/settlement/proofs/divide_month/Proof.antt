@@ -43,7 +43,7 @@ settle-requires c κs =
     let pre = start .pre in
     let m : Input = inputOf (a .month .number) (a .month .days) (a .nonzone) (a .zones .now) (a .owners .now) (a .units .now) (a .accounts .now) (a .loads .now) (a .reservations .now) in
     let few : c .before .before .before .before .before .before .before .before .before .before .before .before .before .before .before .before .before .before .rows-in .result ≤ limit Zones = le-trans (le-of-eq (c .before .before .before .before .before .before .before .before .before .before .before .before .before .before .before .before .before .before .rows-in .ensures)) (c .before .before .before .before .before .before .before .before .before .before .before .before .before .before .before .before .before .before .before .before .before .before .before .before .before .before .before .before .before .before .before .before .before .pre .0 .creditable .few-zones) in (
-      (pre .0 .creditable, usable m (holds-uses m (c .before .before .before .before .before .before .before .before .before .before .before .before .before .before .before .fill .ensures) (pre .1 .0 .uses-room)) (pre .0), omega arith),
+      (pre .0 .creditable, usable m (holds-uses m (c .before .before .before .before .before .before .before .before .before .before .before .before .before .before .before .fill .ensures) (pre .1 .0 .uses-room)) (pre .0), omega (arith, pre .0 .creditable .few-zones)),
       (pre .1 .0 .blackstart-room, pre .1 .1 .blackstart-room),
     )
 
@@ -64,7 +64,7 @@ settle-requires-2 c κs =
     let pre = start .pre in
     let m : Input = inputOf (a .month .number) (a .month .days) (a .nonzone) (a .zones .now) (a .owners .now) (a .units .now) (a .accounts .now) (a .loads .now) (a .reservations .now) in
     let few : c .before .before .before .before .before .before .before .before .before .before .before .before .before .before .before .before .before .before .before .before .before .before .before .before .before .before .rows-in .result ≤ limit Zones = le-trans (le-of-eq (c .before .before .before .before .before .before .before .before .before .before .before .before .before .before .before .before .before .before .before .before .before .before .before .before .before .before .rows-in .ensures)) (c .before .before .before .before .before .before .before .before .before .before .before .before .before .before .before .before .before .before .before .before .before .before .before .before .before .before .before .before .before .before .before .before .before .before .before .before .before .before .before .before .before .pre .0 .creditable .few-zones) in (
-      (pre .0 .creditable, usable m (holds-uses m (c .before .before .before .before .before .before .before .before .before .before .before .before .before .before .before .before .before .before .before .before .before .before .before .fill .ensures) (pre .1 .0 .uses-room)) (pre .0), omega arith),
+      (pre .0 .creditable, usable m (holds-uses m (c .before .before .before .before .before .before .before .before .before .before .before .before .before .before .before .before .before .before .before .before .before .before .before .fill .ensures) (pre .1 .0 .uses-room)) (pre .0), omega (arith, pre .0 .creditable .few-zones)),
       (pre .1 .0 .reactive-room, pre .1 .1 .reactive-room),
     )
 
