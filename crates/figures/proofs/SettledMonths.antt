@@ -2,7 +2,7 @@
 -- Assumes nothing.
 use mathlib.Core.Path.{_≡_, refl}
 use mathlib.Core.List.{[], _∷_}
-use Rattle.lists.specs.Sums.{sumTo, largestFirst, any}
+use Rattle.lists.specs.Sums.{sumTo, sumWhere, largestFirst, any}
 use Rattle.lists.specs.Entries.{listed, put}
 use Rattle.answer.specs.Turns.{_then_, accepted, refuse, first, turns}
 use Rattle.division.specs.Limits.{sizeRefusal}
@@ -54,7 +54,7 @@ record Figures : Type 0 where
   B1-nonzone : listed 2 (service.nonzoneSide (services.serviceIn caseB1 reactive)) ≡ (143 ∷ 71 ∷ [])
 
 figures : Figures
-unfolding sumTo largestFirst listed put refuse _then_ first sizeRefusal quotient remainder leftover comesBefore getsCent share shares turns groups.among groups.weightsIn groups.amount groups.amounts groups.refusal groups.groupsInTurn service.zoneUse service.nonzoneUse service.uses service.zoneSide service.nonzoneSide service.zoneShare service.nonzonePot service.nonzoneParts service.nonzoneShare service.serviceCharge turn.splitRefusal turn.shareRefusal turn.nonzoneRefusal turn.zoneTurn turn.serviceInTurn isMonth through twelfth month.useOf month.nearest month.networkCharge any rows.rowNumber rows.notAbove rows.unknown rows.taken rows.zoneOutside rows.zoneRow rows.ownerOutside rows.ownerRow rows.unitOutside rows.unitRow rows.accountOutside rows.accountRow rows.loadOutside rows.loadRow rows.reservationOutside rows.reservationRow judgement.inTurn judgement.counted judgement.roomFor judgement.headJudged judgement.rowsJudged judgement.judged contributions reserved curtailed accountUse network.rateOf network.rate network.networkCharge network.chargesIn network.requirements network.networkCredit network.nonzoneCredit network.nonzoneRefusal services.unitCredit services.partOf services.creditIn services.serviceCredit services.zonePot services.zonePart services.nonzonePart services.serviceCharge networkInTurn divisionsInTurn answerOf chargeOf creditOf chargeWords creditWords
+unfolding sumTo sumWhere largestFirst listed put refuse _then_ first sizeRefusal quotient remainder leftover comesBefore getsCent share shares turns groups.among groups.weightsIn groups.amount groups.amounts groups.refusal groups.groupsInTurn service.zoneUse service.nonzoneUse service.uses service.zoneSide service.nonzoneSide service.zoneShare service.nonzonePot service.nonzoneParts service.nonzoneShare service.serviceCharge turn.splitRefusal turn.shareRefusal turn.nonzoneRefusal turn.zoneTurn turn.serviceInTurn isMonth through twelfth month.useOf month.nearest month.networkCharge any rows.rowNumber rows.notAbove rows.unknown rows.taken rows.zoneOutside rows.zoneRow rows.ownerOutside rows.ownerRow rows.unitOutside rows.unitRow rows.accountOutside rows.accountRow rows.loadOutside rows.loadRow rows.reservationOutside rows.reservationRow judgement.inTurn judgement.counted judgement.roomFor judgement.headJudged judgement.rowsJudged judgement.judged contributions reserved curtailed accountUse network.rateOf network.rate network.networkCharge network.chargesIn network.requirements network.networkCredit network.nonzoneCredit network.nonzoneRefusal services.unitCredit services.creditIn services.serviceCredit services.zonePot services.zonePart services.nonzonePart services.serviceCharge networkInTurn divisionsInTurn answerOf chargeOf creditOf chargeWords creditWords
 figures =
     record {
       S-charges = refl;

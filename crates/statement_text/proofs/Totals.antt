@@ -23,6 +23,7 @@ use Rattle.pool.specs.Network.{networkCharge}
 use Rattle.pool.specs.Services.{unitCredit, creditIn, serviceCharge}
 use Rattle.settlement.specs.Settled.{laid, chargeOf, creditOf}
 use Rattle.settlement.specs.Accepted.{IsService, Accepted}
+use Rattle.pool.specs.Steps.{mostCharge, mostCredit}
 use Rattle.settlement.specs.Steps.{Holds}
 use Rattle.settlement.proofs.Accepting.{answer-accepted}
 use Rattle.settlement.proofs.Balance as balance
@@ -91,14 +92,14 @@ module _ {m : Input} {lentCharges lentCredits : ℕ} (all : Accepted m lentCharg
   few : (table : Table) → rows table (wordsOf (m .tables) table) ≤ limit table
   few table = all .good .frame .counted table .few
 
-  service-total : (s : ℕ) → IsService s → sumTo (accountCount m) (serviceCharge m s) ≤ 64 * (2 * 10 ^ 12)
+  service-total : (s : ℕ) → IsService s → sumTo (accountCount m) (serviceCharge m s) ≤ limit Units * mostCredit
   unfolding creditIn
   service-total s i =
       le-trans
       (le-of-eq
       (promises.service-charges-are-credits all s i ∙ balance.owners-have-credits m lentCharges lentCredits (all .good) s))
-      (sum-at-most (unitCount m) 64 (2 * 10 ^ 12) (creditIn m s) (few Units)
-      (λ u b. when-within (eqb (unitService (m .tables .units) u) s) (unitCredit m u) (2 * 10 ^ 12) (unit-credit-within m lentCharges lentCredits (all .good) u b)))
+      (sum-at-most (unitCount m) (limit Units) mostCredit (creditIn m s) (few Units)
+      (λ u b. when-within (eqb (unitService (m .tables .units) u) s) (unitCredit m u) mostCredit (unit-credit-within m lentCharges lentCredits (all .good) u b)))
 
   -- the totals are equal, and below 2^64
   pub totals-equal : allCharges m ≡ allCredits m
@@ -110,7 +111,7 @@ module _ {m : Input} {lentCharges lentCredits : ℕ} (all : Accepted m lentCharg
   charges-small =
       omega (
         arith,
-        sum-at-most (accountCount m) 32 (10 ^ 12) (networkCharge m) (few Accounts) (λ a b. charge-within m lentCharges lentCredits (all .good) a),
+        sum-at-most (accountCount m) (limit Accounts) mostCharge (networkCharge m) (few Accounts) (λ a b. charge-within m lentCharges lentCredits (all .good) a),
         service-total blackStart (inl refl),
         service-total reactive (inr refl),
       )

@@ -1,11 +1,12 @@
 -- `pool::columns::sum_in` meets its contract: the rows passed are added up.
 -- Assumes nothing.
 use mathlib.Core.Path.{_≡_, sym, ap, subst, _∙_}
-use Prim.Native.Nat.{ℕ, _-_, _<_, _^_}
+use Prim.Native.Nat.{ℕ, _-_}
 use native.Mathlib.Omega.{arith}
 use lib.Dec.{eqb}
 use Rattle.lists.specs.Sums.{sumTo, at, when, sumWhere}
 use Rattle.tables.specs.Columns.{entry}
+use Rattle.pool.specs.Steps.{Fit}
 use Rattle.pool.proofs.Adding.{Added, added-none, added-on, added-fits, added-all, some-fit}
 use borrow.Author.Needs.{needs}
 use Rattle.pool.proofs.columns.sum_in.Statement.{statement}
@@ -57,8 +58,8 @@ add-sum c =
           added-fits (c .before .before .before .before .loop .inv) _ (c .before .before .before .loop-test .taken) (word c)
           (let start = c .before .before .before .before .before .before .before .before in
           let a = start .args in
-          some-fit _ (λ j. eqb (entry (a .table) (a .column) (a .words .now) j) (a .number)) (at (a .values .now))
-          (subst (λ n. sumTo n (at (a .values .now)) < 2 ^ 64) (sym (c .before .before .before .before .before .rows-in .ensures)) (start .pre .1 .fits)));
+          some-fit _ (entry (a .table) (a .column) (a .words .now)) (at (a .values .now)) (a .number)
+          (subst (λ n. Fit n (at (a .values .now))) (sym (c .before .before .before .before .before .rows-in .ensures)) (start .pre .1 .fits)));
     }
 
 add-i : tie.Need-add-i Inv-loop μ-loop

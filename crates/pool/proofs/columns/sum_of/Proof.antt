@@ -1,11 +1,12 @@
 -- `pool::columns::sum_of` meets its contract: the rows passed are added up.
 -- Assumes nothing.
 use mathlib.Core.Path.{_≡_, sym, ap, ap₂, subst, _∙_}
-use Prim.Native.Nat.{ℕ, _-_, _<_, _^_}
+use Prim.Native.Nat.{ℕ, _-_}
 use native.Mathlib.Omega.{arith}
 use lib.Dec.{eqb}
 use Rattle.lists.specs.Sums.{sumTo, when, sumWhere}
 use Rattle.tables.specs.Columns.{entry}
+use Rattle.pool.specs.Steps.{Fit}
 use Rattle.pool.proofs.Adding.{Added, added-none, added-on, added-fits, added-all, some-fit}
 use borrow.Author.Needs.{needs}
 use Rattle.pool.proofs.columns.sum_of.Statement.{statement}
@@ -53,8 +54,8 @@ add-sum c =
           added-fits (c .before .before .before .before .loop .inv) _ (c .before .before .before .loop-test .taken) (word c)
           (let start = c .before .before .before .before .before .before .before in
           let a = start .args in
-          some-fit _ (λ j. eqb (entry (a .table) 0 (a .words .now) j) (a .number)) (entry (a .table) (a .column) (a .words .now))
-          (subst (λ n. sumTo n (entry (a .table) (a .column) (a .words .now)) < 2 ^ 64) (sym (c .before .before .before .before .before .rows-in .ensures)) (start .pre .1)));
+          some-fit _ (entry (a .table) 0 (a .words .now)) (entry (a .table) (a .column) (a .words .now)) (a .number)
+          (subst (λ n. Fit n (entry (a .table) (a .column) (a .words .now))) (sym (c .before .before .before .before .before .rows-in .ensures)) (start .pre .1)));
     }
 
 add-i : tie.Need-add-i Inv-loop μ-loop
