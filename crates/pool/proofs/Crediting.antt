@@ -17,17 +17,13 @@ use Rattle.answer.specs.Turns.{refuse, _then_}
 use Rattle.answer.proofs.Turns.{then-none, refuse-number}
 use Rattle.division.specs.Limits.{sizeRefusal}
 use Rattle.division.specs.Shares.{shares}
-use Rattle.groups.specs.Groups.{Pots, amounts, potsOf, Grouped}
+use Rattle.groups.specs.Groups.{Pots, amounts, groupsInTurn, potsOf, Grouped}
 use Rattle.groups.specs.Columns.{Added}
 use Rattle.groups.proofs.Same.{Same, same-turn, same-amounts, filled}
 use Rattle.tables.specs.declared.Table.the-variants.{Zones, Owners}
 use Rattle.tables.specs.Shape.{rows}
 use Rattle.tables.specs.Columns.{zoneNumber, ownerZone, ownerRequirement}
 use Rattle.pool.specs.Steps.{chargesFrom, potsFrom, Zeros, NetworkDivided}
-
--- what is left where nothing is refused
-picked : (n : ℕ) (l k : List ℕ) → n ≡ 0 → cond (eqb n 0) l k ≡ l
-picked n l k e = rw (eq-eqb n 0 e)
 
 module _ {p : Pots} {nonzone : ℕ} {weights credits creditsAfter nonzonecredits nonzonecreditsAfter : List ℕ} {zones second r : Answer} {number : ℕ}
     (grouped : Grouped p 0 credits creditsAfter zones) (added : Added nonzone weights nonzonecredits nonzonecreditsAfter number)
@@ -36,31 +32,40 @@ module _ {p : Pots} {nonzone : ℕ} {weights credits creditsAfter nonzonecredits
   network-divided =
       record {
         answer = both ∙ ap₂ _then_ (grouped .answers) (refused ∙ ap (λ n. refuse n divisions (p .groups)) (added .number));
-        credited = λ fine. grouped .lent ∙ picked (zones .number) _ credits (accepted fine .0);
-        nonzone-credited = λ fine.
+        credited = grouped .lent ∙ ap (λ (a : Answer). cond (eqb (a .number) 0) (put (p .members) (amounts p) credits) credits) (grouped .answers);
+        nonzone-credited =
             added .lent
-            ∙ picked number _ nonzonecredits (sym (ap (λ (a : Answer). a .number) refused ∙ refuse-number number divisions (p .groups)) ∙ accepted fine .1)
-            ∙ put-eq (length weights) _ (at (shares nonzone weights)) nonzonecredits
-            (λ i b. ap (λ n. n + at (shares nonzone weights) i) (zeros i) ∙ zero-add (at (shares nonzone weights) i));
+            ∙ ap₂ (λ n l. cond (eqb n 0) l nonzonecredits) (added .number)
+            (put-eq (length weights) _ (at (shares nonzone weights)) nonzonecredits
+            (λ i b. ap (λ n. n + at (shares nonzone weights) i) (zeros i) ∙ zero-add (at (shares nonzone weights) i)));
       }
-    where
-      accepted : r .number ≡ 0 → (zones .number ≡ 0) × (second .number ≡ 0)
-      accepted fine = then-none zones second (ap (λ (a : Answer). a .number) (sym both) ∙ fine)
 
-pub network-same : {p q : Pots} → Same p q → {nonzone : ℕ} {weights credits creditsAfter nonzonecredits nonzonecreditsAfter : List ℕ} {r : Answer}
-    → NetworkDivided p nonzone weights credits creditsAfter nonzonecredits nonzonecreditsAfter r
-    → NetworkDivided q nonzone weights credits creditsAfter nonzonecredits nonzonecreditsAfter r
-network-same {p} {q} s {nonzone} {weights} {credits} {creditsAfter} d =
-    record {
-      answer =
-          d .answer
-          ∙ ap₂ (λ (a : Answer) k. a then refuse (sizeRefusal nonzone (total weights)) divisions k) (same-turn s 0) (s .same-groups);
-      credited = λ fine.
-          d .credited fine
-          ∙ put-eq (p .members) (amounts p) (amounts q) credits (λ i b. same-amounts s i)
-          ∙ ap (λ n. put n (amounts q) credits) (s .same-members);
-      nonzone-credited = d .nonzone-credited;
-    }
+module _ {p : Pots} {nonzone : ℕ} {weights credits creditsAfter nonzonecredits nonzonecreditsAfter : List ℕ} {r : Answer}
+    (divided : NetworkDivided p nonzone weights credits creditsAfter nonzonecredits nonzonecreditsAfter r) where
+  -- where nothing is refused both columns are written
+  pub credited-all : r .number ≡ 0
+      → (creditsAfter ≡ put (p .members) (amounts p) credits) × (nonzonecreditsAfter ≡ put (length weights) (at (shares nonzone weights)) nonzonecredits)
+  credited-all fine =
+      let second : Answer = refuse (sizeRefusal nonzone (total weights)) divisions (p .groups) in
+      let accepted : (groupsInTurn p 0 .number ≡ 0) × (second .number ≡ 0) =
+      then-none (groupsInTurn p 0) second (ap (λ (a : Answer). a .number) (sym (divided .answer)) ∙ fine) in (
+        divided .credited ∙ (rw (eq-eqb (groupsInTurn p 0 .number) 0 (accepted .0))),
+        divided .nonzone-credited
+            ∙ (rw (eq-eqb (sizeRefusal nonzone (total weights)) 0 (sym (refuse-number (sizeRefusal nonzone (total weights)) divisions (p .groups)) ∙ accepted .1))),
+      )
+
+  pub network-same : {q : Pots} → Same p q → NetworkDivided q nonzone weights credits creditsAfter nonzonecredits nonzonecreditsAfter r
+  network-same {q} s =
+      record {
+        answer =
+            divided .answer
+            ∙ ap₂ (λ (a : Answer) k. a then refuse (sizeRefusal nonzone (total weights)) divisions k) (same-turn s 0) (s .same-groups);
+        credited =
+            divided .credited
+            ∙ ap₂ (λ (a : Answer) l. cond (eqb (a .number) 0) l credits) (same-turn s 0)
+            (put-eq (p .members) (amounts p) (amounts q) credits (λ i b. same-amounts s i) ∙ ap (λ n. put n (amounts q) credits) (s .same-members));
+        nonzone-credited = divided .nonzone-credited;
+      }
 
 -- the network divisions of lists that were filled from the tables and a column of charges
 module _ (zones owners accounts network : List ℕ) {credits creditsAfter nonzonecredits nonzonecreditsAfter : List ℕ} {r : Answer} where
@@ -74,4 +79,4 @@ module _ (zones owners accounts network : List ℕ) {credits creditsAfter nonzon
       → NetworkDivided (potsFrom zones owners accounts network) (chargesFrom accounts network 0)
       (listed (rows Owners owners) (ownerRequirement owners)) credits creditsAfter nonzonecredits nonzonecreditsAfter r
   network-from {pots} {numbers} {weights} {groups} {nonzone} e f g h i d =
-      network-same (filled (potsFrom zones owners accounts network)) (rw (e, f, g, h, i) at d)
+      network-same (rw (e, f, g, h, i) at d) (filled (potsFrom zones owners accounts network))

@@ -1,5 +1,6 @@
 mod Adding
 mod Fronts
 mod Filling
-mod Crediting
+pub mod Crediting
 mod Serving
+pub mod Unique

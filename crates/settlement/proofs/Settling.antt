@@ -32,6 +32,7 @@ use Rattle.pool.specs.Accounts.{contributions, reserved, curtailed, accountUse}
 use Rattle.pool.specs.Network.{rate, networkCharge, chargesIn, networkPots, networkCredit, requirements, nonzoneCredit, nonzoneRefusal}
 use Rattle.pool.specs.Services.{unitCredit, creditIn, serviceCredit, zonePot, zonePart, nonzonePart, serviceIn, serviceCharge}
 use Rattle.settlement.specs.Settled.{blackStartPlace, reactivePlace, networkInTurn, divisionsInTurn}
+use Rattle.pool.proofs.Crediting.{credited-all}
 use Rattle.pool.specs.Steps.{accountsInput, unitsInput, mostCharge, Filled, chargesFrom, potsFrom, NetworkDivided, Divisible, serviceFrom, Usable, ServiceSettled}
 use Rattle.settlement.specs.Steps.{Settleable, Holds, ForAccounts, ForOwners, MonthDivided}
 
@@ -108,13 +109,13 @@ module _ (m : Input) where
       unfolding networkCredit
       holds-network-credits fine long =
           holds (ownerCount m) (networkCredit m) credits creditsAfter
-          (divided .credited fine ∙ put-eq (ownerCount m) _ (networkCredit m) credits (λ i b. groups.same-amounts same-pots i)) long
+          (credited-all divided fine .0 ∙ put-eq (ownerCount m) _ (networkCredit m) credits (λ i b. groups.same-amounts same-pots i)) long
 
       pub holds-nonzone-credits : r .number ≡ 0 → ownerCount m ≤ length nonzonecredits → Holds (ownerCount m) (nonzoneCredit m) nonzonecreditsAfter
       unfolding nonzoneCredit requirements
       holds-nonzone-credits fine long =
           holds (ownerCount m) (nonzoneCredit m) nonzonecredits nonzonecreditsAfter
-          (divided .nonzone-credited fine
+          (credited-all divided fine .1
           ∙ ap (λ n. put n (at (shares (chargesFrom accounts network 0) (listed (ownerCount m) (ownerRequirement owners)))) nonzonecredits)
           (length-listed (ownerCount m) (ownerRequirement owners))
           ∙ ap (λ pot. put (ownerCount m) (at (shares pot (listed (ownerCount m) (ownerRequirement owners)))) nonzonecredits) (holds-zone 0))
