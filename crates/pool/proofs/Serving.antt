@@ -1,4 +1,4 @@
--- One service of the code's columns: the units' credits held by zone and by owner are the pots and the owners' credits, and what
+-- One service of the code's columns: the units' credits added up by zone and by owner are the pots and the owners' credits, and what
 -- is charged over the columns is charged over the month.
 -- Assumes nothing.
 use mathlib.Core.Path.{_≡_, refl, sym, ap, _∙_}

@@ -11,7 +11,7 @@ ghost use Rattle.service.specs.Turn.{Served};
 ghost use Rattle.tables.specs.declared.Table.the-variants.{Zones, Owners, Units, Accounts};
 ghost use Rattle.tables.specs.Shape.{rows, limit};
 ghost use Rattle.pool.specs.Services.{creditIn};
-ghost use Rattle.pool.specs.Steps.{unitsInput, serviceFrom, poolFrom, Creditable, Credited, Usable, PartsFilled, ServiceSettled};
+ghost use Rattle.pool.specs.Steps.{unitsInput, poolFrom, Creditable, Credited, Usable, PartsFilled, ServiceSettled};
 use crate::columns;
 use answer::Answer;
 use month::Month;

@@ -1,8 +1,6 @@
 // The settlement of a month, from the head and tables 1 to 6 as plain numbers: its answer, and the lent outputs. An input is judged
 // first, then every division is made in working memory, with `pool`'s charges and credits, and only a month that is accepted writes
 // to the lent outputs. `specs/` says what is answered and written, `proofs/Promises.antt` what follows from it.
-ghost use mathlib.Core.Path.{_≡_};
-ghost use mathlib.Core.Bool.{true};
 ghost use Prim.Native.Nat.{_*_, _≤_};
 ghost use lib.ListN.{length};
 ghost use Rattle.tables.specs.declared.Table.the-variants.{Owners, Accounts};

@@ -4,17 +4,17 @@ use mathlib.Core.Path.{_≡_, sym, ap, subst, _∙_}
 use Prim.Native.Nat.{ℕ, _-_}
 use native.Mathlib.Omega.{arith}
 use lib.Dec.{eqb}
-use Rattle.lists.specs.Sums.{sumTo, at, when, sumWhere}
+use Rattle.lists.specs.Sums.{at, when, sumWhere}
 use Rattle.tables.specs.Columns.{entry}
 use Rattle.pool.specs.Steps.{Fit}
-use Rattle.pool.proofs.Adding.{Added, added-none, added-on, added-fits, added-all, some-fit}
+use Rattle.pool.proofs.Adding.{Added, added-none, added-on, added-fits, added-all}
 use borrow.Author.Needs.{needs}
 use Rattle.pool.proofs.columns.sum_in.Statement.{statement}
 use Rattle.pool.proofs.columns.sum_in.Tie as tie
 
 abbrev Inv-loop : tie.InvT-loop
 Inv-loop table column words values number count sum₀ i₀ sum i =
-    Added count (λ j. when (eqb (entry table column words j) number) (at values j)) i sum
+    Added count (entry table column words) (at values) number i sum
 
 abbrev μ-loop : tie.MeasureT-loop
 μ-loop table column words values number count sum₀ i₀ sum i = count - i
@@ -35,7 +35,7 @@ rows-in-requires : tie.Need-rows-in-requires Inv-loop μ-loop
 rows-in-requires c κs = search needs
 
 loop-holds : tie.Need-loop-holds Inv-loop μ-loop
-loop-holds c = let a = c .before .before .before .args in added-none (c .rows-in .result) (λ j. when (eqb (entry (a .table) (a .column) (a .words .now) j) (a .number)) (at (a .values .now) j))
+loop-holds c = let a = c .before .before .before .args in added-none (c .rows-in .result) (entry (a .table) (a .column) (a .words .now)) (at (a .values .now)) (a .number)
 
 entry-requires : tie.Need-entry-requires Inv-loop μ-loop
 entry-requires c κs =
@@ -58,8 +58,7 @@ add-sum c =
           added-fits (c .before .before .before .before .loop .inv) _ (c .before .before .before .loop-test .taken) (word c)
           (let start = c .before .before .before .before .before .before .before .before in
           let a = start .args in
-          some-fit _ (entry (a .table) (a .column) (a .words .now)) (at (a .values .now)) (a .number)
-          (subst (λ n. Fit n (at (a .values .now))) (sym (c .before .before .before .before .before .rows-in .ensures)) (start .pre .1 .fits)));
+          subst (λ n. Fit n (at (a .values .now))) (sym (c .before .before .before .before .before .rows-in .ensures)) (start .pre .1 .fits));
     }
 
 add-i : tie.Need-add-i Inv-loop μ-loop
@@ -72,11 +71,10 @@ loop-again : tie.Need-loop-again Inv-loop μ-loop
 loop-again c = added-on (c .before .before .before .before .loop .inv) _ (c .before .before .before .loop-test .taken) (word c)
 
 returns : tie.Need-returns Inv-loop μ-loop
-unfolding sumWhere
 returns c =
     let a = c .before .before .before .before .before .args in
     added-all (c .before .loop .inv) (c .loop-test .left)
-    ∙ ap (λ n. sumTo n (λ j. when (eqb (entry (a .table) (a .column) (a .words .now) j) (a .number)) (at (a .values .now) j))) (c .before .before .rows-in .ensures)
+    ∙ ap (λ n. sumWhere n (entry (a .table) (a .column) (a .words .now)) (at (a .values .now)) (a .number)) (c .before .before .rows-in .ensures)
 
 pub sum-in-spec : {M : Type 1} → statement M
 sum-in-spec =

@@ -4,17 +4,17 @@ use mathlib.Core.Path.{_≡_, sym, ap, ap₂, subst, _∙_}
 use Prim.Native.Nat.{ℕ, _-_}
 use native.Mathlib.Omega.{arith}
 use lib.Dec.{eqb}
-use Rattle.lists.specs.Sums.{sumTo, when, sumWhere}
+use Rattle.lists.specs.Sums.{when, sumWhere}
 use Rattle.tables.specs.Columns.{entry}
 use Rattle.pool.specs.Steps.{Fit}
-use Rattle.pool.proofs.Adding.{Added, added-none, added-on, added-fits, added-all, some-fit}
+use Rattle.pool.proofs.Adding.{Added, added-none, added-on, added-fits, added-all}
 use borrow.Author.Needs.{needs}
 use Rattle.pool.proofs.columns.sum_of.Statement.{statement}
 use Rattle.pool.proofs.columns.sum_of.Tie as tie
 
 abbrev Inv-loop : tie.InvT-loop
 Inv-loop table column words number count sum₀ i₀ sum i =
-    Added count (λ j. when (eqb (entry table 0 words j) number) (entry table column words j)) i sum
+    Added count (entry table 0 words) (entry table column words) number i sum
 
 abbrev μ-loop : tie.MeasureT-loop
 μ-loop table column words number count sum₀ i₀ sum i = count - i
@@ -34,7 +34,7 @@ rows-in-requires : tie.Need-rows-in-requires Inv-loop μ-loop
 rows-in-requires c κs = search needs
 
 loop-holds : tie.Need-loop-holds Inv-loop μ-loop
-loop-holds c = let a = c .before .before .args in added-none (c .rows-in .result) (λ j. when (eqb (entry (a .table) 0 (a .words .now) j) (a .number)) (entry (a .table) (a .column) (a .words .now) j))
+loop-holds c = let a = c .before .before .args in added-none (c .rows-in .result) (entry (a .table) 0 (a .words .now)) (entry (a .table) (a .column) (a .words .now)) (a .number)
 
 entry-requires : tie.Need-entry-requires Inv-loop μ-loop
 entry-requires c κs =
@@ -54,8 +54,7 @@ add-sum c =
           added-fits (c .before .before .before .before .loop .inv) _ (c .before .before .before .loop-test .taken) (word c)
           (let start = c .before .before .before .before .before .before .before in
           let a = start .args in
-          some-fit _ (entry (a .table) 0 (a .words .now)) (entry (a .table) (a .column) (a .words .now)) (a .number)
-          (subst (λ n. Fit n (entry (a .table) (a .column) (a .words .now))) (sym (c .before .before .before .before .before .rows-in .ensures)) (start .pre .1)));
+          subst (λ n. Fit n (entry (a .table) (a .column) (a .words .now))) (sym (c .before .before .before .before .before .rows-in .ensures)) (start .pre .1));
     }
 
 add-i : tie.Need-add-i Inv-loop μ-loop
@@ -68,11 +67,10 @@ loop-again : tie.Need-loop-again Inv-loop μ-loop
 loop-again c = added-on (c .before .before .before .before .loop .inv) _ (c .before .before .before .loop-test .taken) (word c)
 
 returns : tie.Need-returns Inv-loop μ-loop
-unfolding sumWhere
 returns c =
     let a = c .before .before .before .before .args in
     added-all (c .before .loop .inv) (c .loop-test .left)
-    ∙ ap (λ n. sumTo n (λ j. when (eqb (entry (a .table) 0 (a .words .now) j) (a .number)) (entry (a .table) (a .column) (a .words .now) j))) (c .before .before .rows-in .ensures)
+    ∙ ap (λ n. sumWhere n (entry (a .table) 0 (a .words .now)) (entry (a .table) (a .column) (a .words .now)) (a .number)) (c .before .before .rows-in .ensures)
 
 pub sum-of-spec : {M : Type 1} → statement M
 sum-of-spec =
