@@ -23,7 +23,8 @@ use Rattle.groups.proofs.Same.{Same, same-turn, same-amounts, filled}
 use Rattle.tables.specs.declared.Table.the-variants.{Zones, Owners}
 use Rattle.tables.specs.Shape.{rows}
 use Rattle.tables.specs.Columns.{zoneNumber, ownerZone, ownerRequirement}
-use Rattle.pool.specs.Steps.{chargesFrom, potsFrom, Zeros, NetworkDivided}
+use Rattle.pool.specs.Network.{zonePots}
+use Rattle.pool.specs.Steps.{chargesFrom, Zeros, NetworkDivided}
 
 module _ {p : Pots} {nonzone : ℕ} {weights credits creditsAfter nonzonecredits nonzonecreditsAfter : List ℕ} {zones second r : Answer} {number : ℕ}
     (grouped : Grouped p 0 credits creditsAfter zones) (added : Added nonzone weights nonzonecredits nonzonecreditsAfter number)
@@ -76,7 +77,7 @@ module _ (zones owners accounts network : List ℕ) {credits creditsAfter nonzon
       → groups ≡ listed (rows Owners owners) (ownerZone owners)
       → nonzone ≡ chargesFrom accounts network 0
       → NetworkDivided (potsOf pots numbers weights groups) nonzone weights credits creditsAfter nonzonecredits nonzonecreditsAfter r
-      → NetworkDivided (potsFrom zones owners accounts network) (chargesFrom accounts network 0)
+      → NetworkDivided (zonePots zones owners (chargesFrom accounts network)) (chargesFrom accounts network 0)
       (listed (rows Owners owners) (ownerRequirement owners)) credits creditsAfter nonzonecredits nonzonecreditsAfter r
   network-from {pots} {numbers} {weights} {groups} {nonzone} e f g h i d =
-      network-same (rw (e, f, g, h, i) at d) (filled (potsFrom zones owners accounts network))
+      network-same (rw (e, f, g, h, i) at d) (filled (zonePots zones owners (chargesFrom accounts network)))

@@ -2,7 +2,7 @@
 -- is charged over the columns is charged over the month.
 -- Assumes nothing.
 use mathlib.Core.Path.{_≡_, refl, sym, ap, _∙_}
-use mathlib.Core.Bool.{Bool}
+use mathlib.Core.Bool.{Bool, not}
 use mathlib.Core.List.{List, []}
 use Prim.Native.Nat.{ℕ, _^_, _≤_, _<_}
 use native.Mathlib.Nat.{le-trans, le-of-eq, lt-of-le-of-lt, lt-of-lt-of-le}
@@ -22,8 +22,8 @@ use Rattle.month.proofs.Months.{twelfth-within}
 use Rattle.tables.specs.declared.Table.the-variants.{Zones, Owners, Units, Accounts}
 use Rattle.tables.specs.Shape.{rows, limit}
 use Rattle.tables.specs.Columns.{zoneNumber, ownerNumber, unitOwner, unitZone, unitService, unitRequirement, accountZone}
-use Rattle.pool.specs.Services.{unitCredit, creditIn, serviceCredit, zonePot}
-use Rattle.pool.specs.Steps.{unitsInput, zonePartFrom, nonzonePartFrom, poolFrom, Summable, mostUse, mostCredit, Creditable, Credited, Usable}
+use Rattle.pool.specs.Services.{zonePart, nonzonePart, serviceOver, unitCredit, creditIn, serviceCredit, zonePot}
+use Rattle.pool.specs.Steps.{unitsInput, Summable, mostUse, mostCredit, Creditable, Credited, Usable}
 
 -- the first words of a list, listed
 pub take-listed : (n : ℕ) (l : List ℕ) → n ≤ length l → take n l ≡ listed n (at l)
@@ -88,30 +88,38 @@ module _ (month : ℕ) (zones owners units : List ℕ) (can : Creditable (unitsI
         }
 
 -- the parts of use of all accounts add up to a word
-module _ (accounts uses : List ℕ) (usable : Usable accounts uses) (test : ℕ → Bool) where
-  pub parts-fit : total (listed (rows Accounts accounts) (λ a. when (test a) (at uses a))) < 2 ^ 64
-  parts-fit =
+module _ (accounts uses : List ℕ) (usable : Usable accounts uses) where
+  parts-fit : (test : ℕ → Bool) → total (listed (rows Accounts accounts) (λ a. when (test a) (at uses a))) < 2 ^ 64
+  parts-fit test =
       lt-of-le-of-lt
       (le-trans (le-of-eq (total-listed (rows Accounts accounts) _))
       (sum-at-most (rows Accounts accounts) (limit Accounts) mostUse (λ a. when (test a) (at uses a)) (usable .few)
       (λ a b. le-trans (when-le (test a) (at uses a)) (usable .within a b))))
       (omega arith)
 
+  pub zone-parts-fit : total (listed (rows Accounts accounts) (zonePart accounts (at uses))) < 2 ^ 64
+  unfolding zonePart
+  zone-parts-fit = parts-fit (λ a. not (eqb (accountZone accounts a) 0))
+
+  pub nonzone-parts-fit : total (listed (rows Accounts accounts) (nonzonePart accounts (at uses))) < 2 ^ 64
+  unfolding nonzonePart
+  nonzone-parts-fit = parts-fit (λ a. eqb (accountZone accounts a) 0)
+
 module _ (zones accounts uses : List ℕ) (pot : ℕ → ℕ) (place : ℕ) {before after : List ℕ} {r : Answer} where
   -- what is charged over lists that hold the pots, the parts and the columns
   pub served-from : {pots numbers zoneparts nonzoneparts accountzones : List ℕ}
       → pots ≡ listed (rows Zones zones) pot
       → numbers ≡ listed (rows Zones zones) (zoneNumber zones)
-      → zoneparts ≡ listed (rows Accounts accounts) (zonePartFrom accounts uses)
-      → nonzoneparts ≡ listed (rows Accounts accounts) (nonzonePartFrom accounts uses)
+      → zoneparts ≡ listed (rows Accounts accounts) (zonePart accounts (at uses))
+      → nonzoneparts ≡ listed (rows Accounts accounts) (nonzonePart accounts (at uses))
       → accountzones ≡ listed (rows Accounts accounts) (accountZone accounts)
       → Served (serviceOf pots numbers zoneparts nonzoneparts accountzones) place before after r
-      → Served (poolFrom zones accounts uses pot) place before after r
-  served-from e f g h i v = same-served (filled (poolFrom zones accounts uses pot)) place before after r (rw (e, f, g, h, i) at v)
+      → Served (serviceOver zones accounts (at uses) pot) place before after r
+  served-from e f g h i v = same-served (filled (serviceOver zones accounts (at uses) pot)) place before after r (rw (e, f, g, h, i) at v)
 
   -- pots that agree zone by zone
   pub served-same : (other : ℕ → ℕ) → ((z : ℕ) → z < rows Zones zones → pot z ≡ other z)
-      → Served (poolFrom zones accounts uses pot) place before after r → Served (poolFrom zones accounts uses other) place before after r
+      → Served (serviceOver zones accounts (at uses) pot) place before after r → Served (serviceOver zones accounts (at uses) other) place before after r
   served-same other e v =
       same-served
       (record {

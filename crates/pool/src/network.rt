@@ -7,7 +7,8 @@ ghost use Rattle.groups.specs.Steps.{Together};
 ghost use Rattle.tables.specs.declared.Table.the-variants.{Zones, Owners};
 ghost use Rattle.tables.specs.Shape.{rows};
 ghost use Rattle.tables.specs.Columns.{ownerRequirement};
-ghost use Rattle.pool.specs.Steps.{chargesFrom, potsFrom, Zeros, NetworkDivided, Divisible};
+ghost use Rattle.pool.specs.Network.{zonePots};
+ghost use Rattle.pool.specs.Steps.{chargesFrom, Zeros, NetworkDivided, Divisible};
 use crate::columns;
 use answer::Answer;
 use answer::DIVISIONS;
@@ -53,7 +54,7 @@ fn credit_in(
     requires { ⌜ (rows Zones (now zones) ≤ length (now numbers)) × (rows Zones (now zones) ≤ length (now pots)) ⌝ }
     requires { ⌜ (rows Owners (now owners) ≤ length (now requirements)) × (rows Owners (now owners) ≤ length (now ownerzones)) ⌝ }
     requires { ⌜ (rows Owners (now owners) ≤ length (now credits)) × (rows Owners (now owners) ≤ length (now nonzonecredits)) × Zeros (now nonzonecredits) ⌝ }
-    ensures { λ r. ⌜ NetworkDivided (potsFrom (now (zones .entry)) (now (owners .entry)) (now (accounts .entry)) (now (network .entry))) (chargesFrom (now (accounts .entry)) (now (network .entry)) 0) (listed (rows Owners (now (owners .entry))) (ownerRequirement (now (owners .entry)))) (now (credits .entry)) (now (credits .exit)) (now (nonzonecredits .entry)) (now (nonzonecredits .exit)) r ⌝ }
+    ensures { λ r. ⌜ NetworkDivided (zonePots (now (zones .entry)) (now (owners .entry)) (chargesFrom (now (accounts .entry)) (now (network .entry)))) (chargesFrom (now (accounts .entry)) (now (network .entry)) 0) (listed (rows Owners (now (owners .entry))) (ownerRequirement (now (owners .entry)))) (now (credits .entry)) (now (credits .exit)) (now (nonzonecredits .entry)) (now (nonzonecredits .exit)) r ⌝ }
 {
     let zonecount = tables::rows_in(Table::Zones, zones.len());
     let ownercount = tables::rows_in(Table::Owners, owners.len());
@@ -93,7 +94,7 @@ pub fn credit(
 ) -> Answer
     requires { ⌜ Divisible (now zones) (now owners) (now accounts) (now network) ⌝ }
     requires { ⌜ (rows Owners (now owners) ≤ length (now credits)) × (rows Owners (now owners) ≤ length (now nonzonecredits)) × Zeros (now nonzonecredits) ⌝ }
-    ensures { λ r. ⌜ NetworkDivided (potsFrom (now (zones .entry)) (now (owners .entry)) (now (accounts .entry)) (now (network .entry))) (chargesFrom (now (accounts .entry)) (now (network .entry)) 0) (listed (rows Owners (now (owners .entry))) (ownerRequirement (now (owners .entry)))) (now (credits .entry)) (now (credits .exit)) (now (nonzonecredits .entry)) (now (nonzonecredits .exit)) r ⌝ }
+    ensures { λ r. ⌜ NetworkDivided (zonePots (now (zones .entry)) (now (owners .entry)) (chargesFrom (now (accounts .entry)) (now (network .entry)))) (chargesFrom (now (accounts .entry)) (now (network .entry)) 0) (listed (rows Owners (now (owners .entry))) (ownerRequirement (now (owners .entry)))) (now (credits .entry)) (now (credits .exit)) (now (nonzonecredits .entry)) (now (nonzonecredits .exit)) r ⌝ }
 {
     let mut numbers = [0u64; tables::MOST_ZONES];
     let mut pots = [0u64; tables::MOST_ZONES];

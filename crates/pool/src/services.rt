@@ -10,8 +10,8 @@ ghost use Rattle.lists.specs.Entries.{put};
 ghost use Rattle.service.specs.Turn.{Served};
 ghost use Rattle.tables.specs.declared.Table.the-variants.{Zones, Owners, Units, Accounts};
 ghost use Rattle.tables.specs.Shape.{rows, limit};
-ghost use Rattle.pool.specs.Services.{creditIn};
-ghost use Rattle.pool.specs.Steps.{unitsInput, poolFrom, Creditable, Credited, Usable, PartsFilled, ServiceSettled};
+ghost use Rattle.pool.specs.Services.{serviceOver, creditIn};
+ghost use Rattle.pool.specs.Steps.{unitsInput, Creditable, Credited, Usable, PartsFilled, ServiceSettled};
 use crate::columns;
 use answer::Answer;
 use month::Month;
@@ -122,7 +122,7 @@ fn charge(
     requires { ⌜ Usable (now accounts) (now uses) × (rows Zones (now zones) ≤ limit Zones) × (place + 2 * rows Zones (now zones) < 2 ^ 64) ⌝ }
     requires { ⌜ (rows Zones (now zones) ≤ length (now pots)) × (rows Zones (now zones) ≤ length (now numbers)) × (rows Accounts (now accounts) ≤ length (now accountzones)) ⌝ }
     requires { ⌜ (rows Accounts (now accounts) ≤ length (now zoneparts)) × (rows Accounts (now accounts) ≤ length (now nonzoneparts)) × (rows Accounts (now accounts) ≤ length (now column)) ⌝ }
-    ensures { λ r. ⌜ Served (poolFrom (now (zones .entry)) (now (accounts .entry)) (now (uses .entry)) (at (now (pots .entry)))) place (now (column .entry)) (now (column .exit)) r ⌝ }
+    ensures { λ r. ⌜ Served (serviceOver (now (zones .entry)) (now (accounts .entry)) (at (now (uses .entry))) (at (now (pots .entry)))) place (now (column .entry)) (now (column .exit)) r ⌝ }
 {
     let zonecount = tables::rows_in(Table::Zones, zones.len());
     let count = tables::rows_in(Table::Accounts, accounts.len());

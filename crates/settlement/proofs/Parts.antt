@@ -37,24 +37,24 @@ use Rattle.settlement.proofs.Ranges.{zones-ascend}
 module _ (m : Input) (a : ℕ) where
   open Tables (m .tables) using (accounts)
 
-  pub zone-part-is-use : accountZone accounts a ≢ 0 → zonePart m a ≡ accountUse m a
+  pub zone-part-is-use : accountZone accounts a ≢ 0 → zonePart accounts (accountUse m) a ≡ accountUse m a
   unfolding zonePart
   zone-part-is-use d = rw (ne-eqb (accountZone accounts a) 0 d)
 
-  pub no-nonzone-part : accountZone accounts a ≢ 0 → nonzonePart m a ≡ 0
+  pub no-nonzone-part : accountZone accounts a ≢ 0 → nonzonePart accounts (accountUse m) a ≡ 0
   unfolding nonzonePart
   no-nonzone-part d = rw (ne-eqb (accountZone accounts a) 0 d)
 
-  pub nonzone-part-is-use : accountZone accounts a ≡ 0 → nonzonePart m a ≡ accountUse m a
+  pub nonzone-part-is-use : accountZone accounts a ≡ 0 → nonzonePart accounts (accountUse m) a ≡ accountUse m a
   unfolding nonzonePart
   nonzone-part-is-use e = rw (eq-eqb (accountZone accounts a) 0 e)
 
-  pub no-zone-part : accountZone accounts a ≡ 0 → zonePart m a ≡ 0
+  pub no-zone-part : accountZone accounts a ≡ 0 → zonePart accounts (accountUse m) a ≡ 0
   unfolding zonePart
   no-zone-part e = rw (eq-eqb (accountZone accounts a) 0 e)
 
   -- without use there are no parts
-  pub idle-parts : accountUse m a ≡ 0 → (zonePart m a ≡ 0) × (nonzonePart m a ≡ 0)
+  pub idle-parts : accountUse m a ≡ 0 → (zonePart accounts (accountUse m) a ≡ 0) × (nonzonePart accounts (accountUse m) a ≡ 0)
   unfolding zonePart nonzonePart
   idle-parts e =
       (when-zero (not (eqb (accountZone accounts a) 0)) (accountUse m a) e, when-zero (eqb (accountZone accounts a) 0) (accountUse m a) e)
@@ -96,7 +96,7 @@ module _ {m : Input} {lentCharges lentCredits : ℕ} (all : Accepted m lentCharg
     zone-side-alone a z b h e =
         promises.zone-share-among-its-accounts (serviceIn m s) fine z a h b e
         ∙ ap (λ l. at (shares (service.zoneSide (serviceIn m s) z) l) (count a (λ c. eqb (accountZone accounts c) (zoneNumber zones z))))
-        (kept-eq (accountCount m) (λ c. eqb (accountZone accounts c) (zoneNumber zones z)) (zonePart m) (accountUse m)
+        (kept-eq (accountCount m) (λ c. eqb (accountZone accounts c) (zoneNumber zones z)) (zonePart accounts (accountUse m)) (accountUse m)
         (λ c l q. zone-part-is-use m c (λ o. zone-not-zero z h (sym (eqb-true (accountZone accounts c) (zoneNumber zones z) q) ∙ o))))
 
     pub non-zone-pot-alone : (a : ℕ) → a < accountCount m → accountZone accounts a ≡ 0
@@ -105,11 +105,11 @@ module _ {m : Input} {lentCharges lentCredits : ℕ} (all : Accepted m lentCharg
         (count a (λ b. eqb (accountZone accounts b) 0))
     unfolding service.nonzoneShare turn.nonzoneRefusal service.nonzoneParts
     non-zone-pot-alone a b e =
-        share-alone (accountCount m) (nonzonePart m) (λ c. eqb (accountZone accounts c) 0)
+        share-alone (accountCount m) (nonzonePart accounts (accountUse m)) (λ c. eqb (accountZone accounts c) 0)
         (λ c l q. no-nonzone-part m c (eqb-false (accountZone accounts c) 0 q))
         (service.nonzonePot (serviceIn m s)) (fine .nonzone-fine) a b (eq-eqb (accountZone accounts a) 0 e)
         ∙ ap (λ l. at (shares (service.nonzonePot (serviceIn m s)) l) (count a (λ c. eqb (accountZone accounts c) 0)))
-        (kept-eq (accountCount m) (λ c. eqb (accountZone accounts c) 0) (nonzonePart m) (accountUse m)
+        (kept-eq (accountCount m) (λ c. eqb (accountZone accounts c) 0) (nonzonePart accounts (accountUse m)) (accountUse m)
         (λ c l q. nonzone-part-is-use m c (eqb-true (accountZone accounts c) 0 q)))
 
     -- all of the non-zone pot is zone 0's accounts'

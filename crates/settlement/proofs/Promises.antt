@@ -102,11 +102,6 @@ module _ {m : Input} {lentCharges lentCredits : ℕ} (all : Accepted m lentCharg
       → chargesIn m (zoneNumber zones z) ≡ sumTo (ownerCount m) (λ o. amount (networkPots m) z o)
   zone-charges-are-credits-from-it z b = sym (pot-divided (networkPots m) z (all .zones-fine z b))
 
-  owners-have-all : (z : ℕ) → z < zoneCount m
-      → sumWhere (ownerCount m) (ownerZone owners) (amount (networkPots m) z) (zoneNumber zones z) ≡ chargesIn m (zoneNumber zones z)
-  unfolding sumWhere
-  owners-have-all z b = members-have-all (networkPots m) z (all .zones-fine z b)
-
   -- .. which is the network credit of each, and nobody else's: "In each zone the network charges equal the network credits"
   pub network-credit-is-from-own-zone : (o z : ℕ) → o < ownerCount m → z < zoneCount m → ownerZone owners o ≡ zoneNumber zones z
       → networkCredit m o ≡ amount (networkPots m) z o
@@ -114,8 +109,9 @@ module _ {m : Input} {lentCharges lentCredits : ℕ} (all : Accepted m lentCharg
 
   pub zone-charges-are-credits : (z : ℕ) → z < zoneCount m
       → chargesIn m (zoneNumber zones z) ≡ sumWhere (ownerCount m) (ownerZone owners) (networkCredit m) (zoneNumber zones z)
+  unfolding sumWhere
   zone-charges-are-credits z b =
-      sym (owners-have-all z b)
+      sym (members-have-all (networkPots m) z (all .zones-fine z b))
       ∙ where-eq (ownerCount m) (ownerZone owners) (amount (networkPots m) z) (zoneNumber zones z) (networkCredit m)
       (λ o h e. sym (parts.credit-from-own-zone all o z h b e))
 

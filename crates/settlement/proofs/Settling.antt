@@ -29,11 +29,11 @@ use Rattle.tables.specs.Columns.{zoneNumber, ownerRequirement, accountZone}
 use Rattle.tables.specs.Limits.{blackStart, reactive}
 use Rattle.pool.specs.Input.{Input, zoneCount, ownerCount, accountCount}
 use Rattle.pool.specs.Accounts.{contributions, reserved, curtailed, accountUse}
-use Rattle.pool.specs.Network.{rate, networkCharge, chargesIn, networkPots, networkCredit, requirements, nonzoneCredit, nonzoneRefusal}
+use Rattle.pool.specs.Network.{rate, networkCharge, chargesIn, zonePots, networkPots, networkCredit, requirements, nonzoneCredit, nonzoneRefusal}
 use Rattle.pool.specs.Services.{unitCredit, creditIn, serviceCredit, zonePot, zonePart, nonzonePart, serviceIn, serviceCharge}
 use Rattle.settlement.specs.Settled.{blackStartPlace, reactivePlace, networkInTurn, divisionsInTurn}
 use Rattle.pool.proofs.Crediting.{credited-all}
-use Rattle.pool.specs.Steps.{accountsInput, unitsInput, mostCharge, Filled, chargesFrom, potsFrom, NetworkDivided, Divisible, serviceFrom, Usable, ServiceSettled}
+use Rattle.pool.specs.Steps.{accountsInput, unitsInput, mostCharge, Filled, chargesFrom, NetworkDivided, Divisible, serviceFrom, Usable, ServiceSettled}
 use Rattle.settlement.specs.Steps.{Settleable, Holds, ForAccounts, ForOwners, MonthDivided}
 
 -- a column that n values were stored in holds them
@@ -84,7 +84,7 @@ module _ (m : Input) where
     holds-zone zone =
         where-eq (accountCount m) (accountZone accounts) (at network) zone (networkCharge m) (λ a b e. charges .words a b)
 
-    same-pots : groups.Same (potsFrom zones owners accounts network) (networkPots m)
+    same-pots : groups.Same (zonePots zones owners (chargesFrom accounts network)) (networkPots m)
     same-pots =
         record {
           same-members = refl;
@@ -97,7 +97,7 @@ module _ (m : Input) where
 
     -- the network divisions
     module _ {credits creditsAfter nonzonecredits nonzonecreditsAfter : List ℕ} {r : Answer}
-        (divided : NetworkDivided (potsFrom zones owners accounts network) (chargesFrom accounts network 0) (listed (ownerCount m) (ownerRequirement owners)) credits creditsAfter nonzonecredits nonzonecreditsAfter r) where
+        (divided : NetworkDivided (zonePots zones owners (chargesFrom accounts network)) (chargesFrom accounts network 0) (listed (ownerCount m) (ownerRequirement owners)) credits creditsAfter nonzonecredits nonzonecreditsAfter r) where
       pub network-answer : r ≡ networkInTurn m
       unfolding networkInTurn nonzoneRefusal requirements
       network-answer =
@@ -167,7 +167,7 @@ module _ (m : Input) where
       {credits creditsAfter nonzonecredits nonzonecreditsAfter blackstartcredits blackstartcreditsAfter reactivecredits reactivecreditsAfter : List ℕ}
       {first second third r : Answer} {blackstartplace reactiveplace : ℕ}
       (filled : Filled forAccounts network networkAfter uses usesAfter)
-      (divided : NetworkDivided (potsFrom zones owners accounts networkAfter) (chargesFrom accounts networkAfter 0) (listed (ownerCount m) (ownerRequirement owners)) credits creditsAfter nonzonecredits nonzonecreditsAfter first)
+      (divided : NetworkDivided (zonePots zones owners (chargesFrom accounts networkAfter)) (chargesFrom accounts networkAfter 0) (listed (ownerCount m) (ownerRequirement owners)) credits creditsAfter nonzonecredits nonzonecreditsAfter first)
       (served : ServiceSettled forUnits accounts usesAfter blackStart blackstartplace blackstart blackstartAfter blackstartcredits blackstartcreditsAfter second)
       (served-too : ServiceSettled forUnits accounts usesAfter reactive reactiveplace reactives reactivesAfter reactivecredits reactivecreditsAfter third)
       (there : blackstartplace ≡ blackStartPlace (zoneCount m)) (there-too : reactiveplace ≡ reactivePlace (zoneCount m))

@@ -1,16 +1,13 @@
 -- `pool::services::charge` meets its contract: the lists that are charged hold the tables' columns and the parts of use.
 -- Assumes nothing.
 use mathlib.Core.Path.{_≡_, sym, ap, subst, _∙_}
-use mathlib.Core.Bool.{not}
 use Prim.Native.Nat.{_<_, _^_}
-use lib.Dec.{eqb}
-use Rattle.tables.specs.Columns.{accountZone}
 use native.Mathlib.Omega.{arith}
 use lib.ListN.{length, take}
 use lib.Seq.{length-take-le}
 use Rattle.lists.specs.Sums.{at, total}
 use Rattle.pool.proofs.Fronts.{front, front-within, front-long}
-use Rattle.pool.proofs.Serving.{take-listed, parts-fit, served-from}
+use Rattle.pool.proofs.Serving.{take-listed, zone-parts-fit, nonzone-parts-fit, served-from}
 use borrow.Author.Needs.{needs}
 use Rattle.pool.proofs.services.charge.Statement.{statement}
 use Rattle.pool.proofs.services.charge.Tie as tie
@@ -75,8 +72,8 @@ charge-requires c κs =
           pot-each = omega (arith, pots, numbers);
         };
         both-parts = omega (arith, zoneparts, nonzoneparts);
-        zone-use = subst (λ l. total l < 2 ^ 64) (sym (front _ _ _ (c .before .before .before .before .before .before .before .before .before .before .fill-parts .ensures .zone-parts) (c .before .before .before .before .before .before .before .before .before .before .before .before .before .before .before .before .before .before .before .before .before .before .before .before .before .before .before .before .before .before .before .before .pre .1 .1 .0) (c .before .before .before .before .before .before .before .before .before .before .before .before .before .before .before .before .before .before .before .before .before .rows-in2 .ensures))) (parts-fit (a .accounts .now) (a .uses .now) (start .pre .0 .0) (λ i. not (eqb (accountZone (a .accounts .now) i) 0)));
-        nonzone-use = subst (λ l. total l < 2 ^ 64) (sym (front _ _ _ (c .before .before .before .before .before .before .before .before .before .before .fill-parts .ensures .nonzone-parts) (c .before .before .before .before .before .before .before .before .before .before .before .before .before .before .before .before .before .before .before .before .before .before .before .before .before .before .before .before .before .before .before .before .pre .1 .1 .1) (c .before .before .before .before .before .before .before .before .before .before .before .before .before .before .before .before .before .before .before .before .before .rows-in2 .ensures))) (parts-fit (a .accounts .now) (a .uses .now) (start .pre .0 .0) (λ i. eqb (accountZone (a .accounts .now) i) 0));
+        zone-use = subst (λ l. total l < 2 ^ 64) (sym (front _ _ _ (c .before .before .before .before .before .before .before .before .before .before .fill-parts .ensures .zone-parts) (c .before .before .before .before .before .before .before .before .before .before .before .before .before .before .before .before .before .before .before .before .before .before .before .before .before .before .before .before .before .before .before .before .pre .1 .1 .0) (c .before .before .before .before .before .before .before .before .before .before .before .before .before .before .before .before .before .before .before .before .before .rows-in2 .ensures))) (zone-parts-fit (a .accounts .now) (a .uses .now) (start .pre .0 .0));
+        nonzone-use = subst (λ l. total l < 2 ^ 64) (sym (front _ _ _ (c .before .before .before .before .before .before .before .before .before .before .fill-parts .ensures .nonzone-parts) (c .before .before .before .before .before .before .before .before .before .before .before .before .before .before .before .before .before .before .before .before .before .before .before .before .before .before .before .before .before .before .before .before .pre .1 .1 .1) (c .before .before .before .before .before .before .before .before .before .before .before .before .before .before .before .before .before .before .before .before .before .rows-in2 .ensures))) (nonzone-parts-fit (a .accounts .now) (a .uses .now) (start .pre .0 .0));
       },
       (omega (arith, zoneparts, c .before .before .before .before .before .before .before .before .before .before .before .before .before .before .before .before .before .before .before .before .before .rows-in2 .ensures, start .pre .1 .1 .2), omega (arith, numbers, c .before .before .before .before .before .before .before .before .before .before .before .before .before .before .before .before .before .before .before .before .before .before .rows-in .ensures, start .pre .0)),
     )

@@ -8,15 +8,15 @@ use lib.Dec.{eqb}
 use Rattle.lists.specs.Sums.{at, when}
 use Rattle.lists.specs.Entries.{put}
 use Rattle.groups.proofs.Storing.{Stored, stored-start, stored-long, stored-on, stored-end}
-use Rattle.pool.specs.Steps.{zonePartFrom, nonzonePartFrom}
+use Rattle.pool.specs.Services.{zonePart, nonzonePart}
 use borrow.Author.Needs.{needs}
 use Rattle.pool.proofs.services.fill_parts.Statement.{statement}
 use Rattle.pool.proofs.services.fill_parts.Tie as tie
 
 abbrev Inv-loop : tie.InvT-loop
 Inv-loop accounts uses zoneparts₀ nonzoneparts₀ count i₀ zoneparts nonzoneparts i =
-    Stored count (zonePartFrom accounts uses) zoneparts₀ i zoneparts
-    × Stored count (nonzonePartFrom accounts uses) nonzoneparts₀ i nonzoneparts
+    Stored count (zonePart accounts (at uses)) zoneparts₀ i zoneparts
+    × Stored count (nonzonePart accounts (at uses)) nonzoneparts₀ i nonzoneparts
 
 abbrev μ-loop : tie.MeasureT-loop
 μ-loop accounts uses zoneparts₀ nonzoneparts₀ count i₀ zoneparts nonzoneparts i = count - i
@@ -27,7 +27,7 @@ rows-in-requires c κs = search needs
 loop-holds : tie.Need-loop-holds Inv-loop μ-loop
 loop-holds c =
     let a = c .before .before .before .before .before .args in
-    (stored-start (c .rows-in .result) (zonePartFrom (a .accounts .now) (a .uses .now)) (a .zoneparts .now), stored-start (c .rows-in .result) (nonzonePartFrom (a .accounts .now) (a .uses .now)) (a .nonzoneparts .now))
+    (stored-start (c .rows-in .result) (zonePart (a .accounts .now) (at (a .uses .now))) (a .zoneparts .now), stored-start (c .rows-in .result) (nonzonePart (a .accounts .now) (at (a .uses .now))) (a .nonzoneparts .now))
 
 account-zone-requires : tie.Need-account-zone-requires Inv-loop μ-loop
 account-zone-requires c κs = omega (arith, c .before .before .rows-in .ensures)
@@ -69,6 +69,7 @@ loop-less : tie.Need-loop-less Inv-loop μ-loop
 loop-less c = search needs
 
 loop-again : tie.Need-loop-again Inv-loop μ-loop
+unfolding zonePart nonzonePart
 loop-again c =
     let a = c .before .before .before .before .before .before .before .before .before .before .before .before .args in
     let i = c .before .before .before .before .before .before .loop .i in (
@@ -88,8 +89,8 @@ returns : tie.Need-returns Inv-loop μ-loop
 returns c =
     let a = c .before .before .before .before .before .before .before .args in
     record {
-      zone-parts = stored-end (c .before .loop .inv .0) (c .loop-test .left) ∙ ap (λ n. put n (zonePartFrom (a .accounts .now) (a .uses .now)) (a .zoneparts .now)) (c .before .before .rows-in .ensures);
-      nonzone-parts = stored-end (c .before .loop .inv .1) (c .loop-test .left) ∙ ap (λ n. put n (nonzonePartFrom (a .accounts .now) (a .uses .now)) (a .nonzoneparts .now)) (c .before .before .rows-in .ensures);
+      zone-parts = stored-end (c .before .loop .inv .0) (c .loop-test .left) ∙ ap (λ n. put n (zonePart (a .accounts .now) (at (a .uses .now))) (a .zoneparts .now)) (c .before .before .rows-in .ensures);
+      nonzone-parts = stored-end (c .before .loop .inv .1) (c .loop-test .left) ∙ ap (λ n. put n (nonzonePart (a .accounts .now) (at (a .uses .now))) (a .nonzoneparts .now)) (c .before .before .rows-in .ensures);
     }
 
 pub fill-parts-spec : {M : Type 1} → statement M
