@@ -2,7 +2,7 @@
 -- Assumes nothing.
 use mathlib.Core.Path.{_≡_, refl}
 use mathlib.Core.List.{[], _∷_}
-use Rattle.lists.specs.Sums.{sumTo, largestFirst, any}
+use Rattle.lists.specs.Sums.{sumTo, sumWhere, largestFirst, any}
 use Rattle.lists.specs.Entries.{listed, put}
 use Rattle.answer.specs.Turns.{_then_, accepted, refuse, first, turns}
 use Rattle.division.specs.Limits.{sizeRefusal}
@@ -16,10 +16,10 @@ use Rattle.tables.specs.Limits.{blackStart, reactive}
 use Rattle.rows.specs.Rows as rows
 use Rattle.tables.specs.Counts as counts
 use Rattle.judgement.specs.Judgement as judgement
-use Rattle.settlement.specs.Input.{Input, inputOf}
-use Rattle.settlement.specs.Accounts.{contributions, reserved, curtailed, accountUse}
-use Rattle.settlement.specs.Network as network
-use Rattle.settlement.specs.Services as services
+use Rattle.pool.specs.Input.{Input, inputOf}
+use Rattle.pool.specs.Accounts.{contributions, reserved, curtailed, accountUse}
+use Rattle.pool.specs.Network as network
+use Rattle.pool.specs.Services as services
 use Rattle.settlement.specs.Settled.{networkInTurn, divisionsInTurn, answerOf, chargeOf, creditOf, chargeWords, creditWords}
 
 abbrev caseS : Input
@@ -55,7 +55,7 @@ record Figures : Type 0 where
   B1-nonzone : listed 2 (service.nonzoneSide (services.serviceIn caseB1 reactive)) ≡ (143 ∷ 71 ∷ [])
 
 figures : Figures
-unfolding sumTo largestFirst listed put refuse _then_ first sizeRefusal quotient remainder leftover comesBefore getsCent share shares turns groups.among groups.weightsIn groups.amount groups.amounts groups.refusal groups.groupsInTurn service.zoneUse service.nonzoneUse service.uses service.zoneSide service.nonzoneSide service.zoneShare service.nonzonePot service.nonzoneParts service.nonzoneShare service.serviceCharge turn.splitRefusal turn.shareRefusal turn.nonzoneRefusal turn.zoneTurn turn.serviceInTurn isMonth through twelfth month.useOf month.nearest month.networkCharge any rows.rowNumber rows.notAbove rows.unknown rows.taken rows.zoneOutside rows.rowIn rows.ownerOutside rows.unitOutside rows.accountOutside rows.loadOutside rows.reservationOutside counts.inTurn counts.counted counts.roomFor judgement.headJudged judgement.rowsJudged judgement.judged contributions reserved curtailed accountUse network.rateOf network.rate network.networkCharge network.chargesIn network.requirements network.networkCredit network.nonzoneCredit network.nonzoneRefusal services.unitCredit services.partOf services.creditIn services.serviceCredit services.zonePot services.zonePart services.nonzonePart services.serviceCharge networkInTurn divisionsInTurn answerOf chargeOf creditOf chargeWords creditWords
+unfolding sumTo sumWhere largestFirst listed put refuse _then_ first sizeRefusal quotient remainder leftover comesBefore getsCent share shares turns groups.among groups.weightsIn groups.amount groups.amounts groups.refusal groups.groupsInTurn service.zoneUse service.nonzoneUse service.uses service.zoneSide service.nonzoneSide service.zoneShare service.nonzonePot service.nonzoneParts service.nonzoneShare service.serviceCharge turn.splitRefusal turn.shareRefusal turn.nonzoneRefusal turn.zoneTurn turn.serviceInTurn isMonth through twelfth month.useOf month.nearest month.networkCharge any rows.rowNumber rows.notAbove rows.unknown rows.taken rows.zoneOutside rows.rowIn rows.ownerOutside rows.unitOutside rows.accountOutside rows.loadOutside rows.reservationOutside counts.inTurn counts.counted counts.roomFor judgement.headJudged judgement.rowsJudged judgement.judged contributions reserved curtailed accountUse network.rateOf network.rate network.networkCharge network.chargesIn network.requirements network.networkCredit network.nonzoneCredit network.nonzoneRefusal services.unitCredit services.creditIn services.serviceCredit services.zonePot services.zonePart services.nonzonePart services.serviceCharge networkInTurn divisionsInTurn answerOf chargeOf creditOf chargeWords creditWords
 figures =
     record {
       S-charges = refl;

@@ -3,7 +3,7 @@
 use mathlib.Core.Path.{_≡_, refl}
 use mathlib.Core.List.{List}
 use Prim.Native.Nat.{ℕ}
-use Rattle.lists.specs.Sums.{sumTo, largestFirst, any}
+use Rattle.lists.specs.Sums.{sumTo, sumWhere, largestFirst, any}
 use Rattle.lists.specs.Entries.{listed, put}
 use Rattle.answer.specs.Turns.{_then_, refuse, turns, first}
 use Rattle.division.specs.Limits.{sizeRefusal}
@@ -21,9 +21,9 @@ use Rattle.text.specs.Numbers.{isDigit, digitsOn, number, digits, decimal}
 use Rattle.text.specs.Lines.{past, field, fields, line, fieldsText, lineText}
 use Rattle.monthfile.specs.Reading as reading
 use Rattle.monthfile.specs.Writing.{rowsText}
-use Rattle.settlement.specs.Accounts.{contributions, reserved, curtailed, accountUse}
-use Rattle.settlement.specs.Network as network
-use Rattle.settlement.specs.Services as services
+use Rattle.pool.specs.Accounts.{contributions, reserved, curtailed, accountUse}
+use Rattle.pool.specs.Network as network
+use Rattle.pool.specs.Services as services
 use Rattle.settlement.specs.Settled.{networkInTurn, divisionsInTurn, answerOf, chargeOf, creditOf, chargeWords, creditWords}
 use Rattle.statement_text.specs.Statement.{rowsWith, linesText, allCharges, allCredits, statementLines, settledAnswer, refuseLine, settledText, statementOf}
 
@@ -34,5 +34,5 @@ abbrev pub caseStatement : List ℕ
 caseStatement = bytes "charge=1,2000,500,0\ncharge=2,0,500,0\ncredit=1,1333,0,0,0\ncredit=2,667,0,1000,0\ntotal=3000,3000\n"
 
 pub case-s : statementOf caseFile ≡ caseStatement
-unfolding sumTo largestFirst listed put refuse _then_ first sizeRefusal quotient remainder leftover comesBefore getsCent share shares turns groups.among groups.weightsIn groups.amount groups.amounts groups.refusal groups.groupsInTurn service.zoneUse service.nonzoneUse service.uses service.zoneSide service.nonzoneSide service.zoneShare service.nonzonePot service.nonzoneParts service.nonzoneShare service.serviceCharge turn.splitRefusal turn.shareRefusal turn.nonzoneRefusal turn.zoneTurn turn.serviceInTurn isMonth through twelfth month.useOf month.nearest month.networkCharge any rows.rowNumber rows.notAbove rows.unknown rows.taken rows.zoneOutside rows.rowIn rows.ownerOutside rows.unitOutside rows.accountOutside rows.loadOutside rows.reservationOutside counts.inTurn counts.counted counts.roomFor judgement.headJudged judgement.rowsJudged judgement.judged contributions reserved curtailed accountUse network.rateOf network.rate network.networkCharge network.chargesIn network.requirements network.networkCredit network.nonzoneCredit network.nonzoneRefusal services.unitCredit services.partOf services.creditIn services.serviceCredit services.zonePot services.zonePart services.nonzonePart services.serviceCharge networkInTurn divisionsInTurn answerOf chargeOf creditOf chargeWords creditWords isDigit digitsOn number past field fields line digits decimal fieldsText lineText reading.rows reading.heads reading.tables reading.rowsIn reading.ending reading.reading rowsText rowsWith linesText allCharges allCredits statementLines settledAnswer refuseLine settledText statementOf
+unfolding sumTo sumWhere largestFirst listed put refuse _then_ first sizeRefusal quotient remainder leftover comesBefore getsCent share shares turns groups.among groups.weightsIn groups.amount groups.amounts groups.refusal groups.groupsInTurn service.zoneUse service.nonzoneUse service.uses service.zoneSide service.nonzoneSide service.zoneShare service.nonzonePot service.nonzoneParts service.nonzoneShare service.serviceCharge turn.splitRefusal turn.shareRefusal turn.nonzoneRefusal turn.zoneTurn turn.serviceInTurn isMonth through twelfth month.useOf month.nearest month.networkCharge any rows.rowNumber rows.notAbove rows.unknown rows.taken rows.zoneOutside rows.rowIn rows.ownerOutside rows.unitOutside rows.accountOutside rows.loadOutside rows.reservationOutside judgement.inTurn judgement.counted judgement.roomFor judgement.headJudged judgement.rowsJudged judgement.judged contributions reserved curtailed accountUse network.rateOf network.rate network.networkCharge network.chargesIn network.requirements network.networkCredit network.nonzoneCredit network.nonzoneRefusal services.unitCredit services.creditIn services.serviceCredit services.zonePot services.zonePart services.nonzonePart services.serviceCharge networkInTurn divisionsInTurn answerOf chargeOf creditOf chargeWords creditWords isDigit digitsOn number past field fields line digits decimal fieldsText lineText reading.rows reading.heads reading.tables reading.rowsIn reading.ending reading.reading rowsText rowsWith linesText allCharges allCredits statementLines settledAnswer refuseLine settledText statementOf
 case-s = refl

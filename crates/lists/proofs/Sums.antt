@@ -4,10 +4,12 @@ use mathlib.Core.Path.{_≡_, refl, sym, ap, ap₂, _∙_, subst}
 use mathlib.Core.Logic.{_⊎_, inl, inr, ⊎-elim, _≢_}
 use mathlib.Core.Bool.{Bool, true, false, true≢false, _&&_, _||_, and-eq-true-iff}
 use Prim.Native.Nat.{ℕ, zero, suc, _+_, _*_, _≤_, _<_}
-use native.Mathlib.Nat.{add-comm, add-assoc, eq-or-lt-of-le, le-of-suc-le-suc, not-suc-le-zero, mul-add, mul-zero, le-step, lt-suc-self, zero-mul, suc-mul, le-refl, le-of-eq, ne-of-lt, ne-of-gt}
+use native.Mathlib.Nat.{add-comm, add-assoc, eq-or-lt-of-le, le-of-suc-le-suc, not-suc-le-zero, mul-add, mul-zero, le-step, lt-suc-self, zero-mul, suc-mul, le-refl, le-of-eq, ne-of-lt, ne-of-gt, mul-le-mul-right, le-trans}
 use native.Mathlib.Numerals.{add-one}
 use native.Mathlib.Omega.{arith}
-use Rattle.lists.specs.Sums.{sumTo, bit, when, count, every}
+use lib.Dec.{eqb}
+use borrow.Author.Tests.{eqb-true}
+use Rattle.lists.specs.Sums.{sumTo, bit, when, sumWhere, count, every}
 
 -- a position below n + 1 is n or below n
 pub last-or-below : (n i : ℕ) → i < suc n → (i ≡ n) ⊎ (i < n)
@@ -50,6 +52,11 @@ pub sum-const : (n k : ℕ) → sumTo n (λ i. k) ≡ n * k
 unfolding sumTo
 sum-const zero k = sym (zero-mul k)
 sum-const (suc n) k = ap (λ m. m + k) (sum-const n k) ∙ sym (suc-mul n k)
+
+-- so many entries, each at most so much
+pub sum-at-most : (n limit most : ℕ) (f : ℕ → ℕ) → n ≤ limit → ((i : ℕ) → i < n → f i ≤ most) → sumTo n f ≤ limit * most
+sum-at-most n limit most f few within =
+    le-trans (sum-le n f (λ i. most) within) (le-trans (le-of-eq (sum-const n most)) (mul-le-mul-right most few))
 
 -- one entry is at most the sum
 pub le-sum : (n : ℕ) (f : ℕ → ℕ) (i : ℕ) → i < n → f i ≤ sumTo n f
@@ -135,6 +142,33 @@ when-zero false x e = refl
 pub when-le : (t : Bool) (x : ℕ) → when t x ≤ x
 when-le true x = omega arith
 when-le false x = omega arith
+
+pub when-eq : (t : Bool) (x y : ℕ) → (t ≡ true → x ≡ y) → when t x ≡ when t y
+when-eq true x y e = e refl
+when-eq false x y e = refl
+
+pub when-mono : (t : Bool) (x y : ℕ) → x ≤ y → when t x ≤ when t y
+when-mono true x y h = h
+when-mono false x y h = le-refl 0
+
+-- the values of the rows that have one number, added up
+module _ (n : ℕ) (numberOf f : ℕ → ℕ) (number : ℕ) where
+  pub where-eq : (g : ℕ → ℕ) → ((i : ℕ) → i < n → numberOf i ≡ number → f i ≡ g i) → sumWhere n numberOf f number ≡ sumWhere n numberOf g number
+  unfolding sumWhere
+  where-eq g e =
+      sum-eq n (λ i. when (eqb (numberOf i) number) (f i)) (λ i. when (eqb (numberOf i) number) (g i))
+      (λ i b. when-eq (eqb (numberOf i) number) (f i) (g i) (λ q. e i b (eqb-true (numberOf i) number q)))
+
+  pub where-mono : (g : ℕ → ℕ) → ((i : ℕ) → i < n → f i ≤ g i) → sumWhere n numberOf f number ≤ sumWhere n numberOf g number
+  unfolding sumWhere
+  where-mono g h =
+      sum-le n (λ i. when (eqb (numberOf i) number) (f i)) (λ i. when (eqb (numberOf i) number) (g i))
+      (λ i b. when-mono (eqb (numberOf i) number) (f i) (g i) (h i b))
+
+  -- they are at most all values
+  pub where-le : sumWhere n numberOf f number ≤ sumTo n f
+  unfolding sumWhere
+  where-le = sum-le n (λ i. when (eqb (numberOf i) number) (f i)) f (λ i b. when-le (eqb (numberOf i) number) (f i))
 
 pub bit-le : (t : Bool) → bit t ≤ 1
 bit-le true = le-refl 1

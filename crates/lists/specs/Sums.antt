@@ -21,6 +21,10 @@ abbrev pub when : Bool → ℕ → ℕ
 when true x = x
 when false x = 0
 
+-- of n rows with a number and a value each, the values of the rows that have one number, added up
+unfoldable pub sumWhere : ℕ → (ℕ → ℕ) → (ℕ → ℕ) → ℕ → ℕ
+sumWhere n numberOf value number = sumTo n (λ i. when (eqb (numberOf i) number) (value i))
+
 -- at how many positions below n a test holds
 abbrev pub count : ℕ → (ℕ → Bool) → ℕ
 count n t = sumTo n (λ i. bit (t i))

@@ -14,9 +14,9 @@ use Rattle.service.proofs.Turns.{accepted-fine, fine-accepted}
 use Rattle.tables.specs.Limits.{blackStart, reactive}
 use Rattle.judgement.specs.Judgement.{judged}
 use Rattle.judgement.proofs.Judging.{judged-good, good-unrefused}
-use Rattle.settlement.specs.Input.{Input, zoneCount}
-use Rattle.settlement.specs.Network.{networkPots, nonzoneRefusal}
-use Rattle.settlement.specs.Services.{serviceIn}
+use Rattle.pool.specs.Input.{Input, zoneCount}
+use Rattle.pool.specs.Network.{networkPots, nonzoneRefusal}
+use Rattle.pool.specs.Services.{serviceIn}
 use Rattle.settlement.specs.Settled.{
   networkPlace,
   nonzonePlace,

@@ -8,7 +8,7 @@ use native.Mathlib.Nat.{le-step, lt-suc-self, le-of-suc-le}
 use native.Mathlib.Omega.{arith}
 use lib.Dec.{eqb}
 use borrow.Author.Tests.{eq-eqb, ne-eqb, eqb-true}
-use Rattle.lists.specs.Sums.{sumTo, when}
+use Rattle.lists.specs.Sums.{sumTo, when, sumWhere}
 use Rattle.lists.proofs.Sums.{sum-zero, sum-one}
 use Rattle.lists.proofs.Ranks.{true-or-false, lt-or-le}
 use Rattle.month.specs.Limits.{mostLoad}
@@ -33,7 +33,8 @@ module _ (n : ℕ) (key : ℕ → ℕ) (up : Ascends n key) where
       ∙ (rw (eq-eqb x (key k) (sym e)))
 
   -- .. and so is what the rows with row k's number have
-  pub entry-of : (f : ℕ → ℕ) (k x : ℕ) → k < n → key k ≡ x → sumTo n (λ i. when (eqb (key i) x) (f i)) ≡ f k
+  pub entry-of : (f : ℕ → ℕ) (k x : ℕ) → k < n → key k ≡ x → sumWhere n key f x ≡ f k
+  unfolding sumWhere
   entry-of f k x h e =
       sum-one n (λ i. when (eqb (key i) x) (f i)) k h
       (λ i b d. rw (ne-eqb (key i) x (λ q. distinct i k b h d (q ∙ sym e))))
@@ -45,13 +46,13 @@ no-row-of n key x v none = sum-zero n (λ i. when (eqb x (key i)) v) (λ i b. rw
 
 -- .. and what the rows with a number have is at most what one row can have
 pub one-row-at-most : (n : ℕ) (key f : ℕ → ℕ) (x most : ℕ) → Ascends n key → ((i : ℕ) → i < n → f i ≤ most)
-    → sumTo n (λ i. when (eqb (key i) x) (f i)) ≤ most
-unfolding sumTo
+    → sumWhere n key f x ≤ most
+unfolding sumTo sumWhere
 one-row-at-most zero key f x most up within = omega arith
 one-row-at-most (suc n) key f x most up within =
     ⊎-elim
     (λ (e : eqb (key n) x ≡ true).
-    let before : sumTo n (λ i. when (eqb (key i) x) (f i)) ≡ 0 =
+    let before : sumWhere n key f x ≡ 0 =
     sum-zero n (λ i. when (eqb (key i) x) (f i))
     (λ i b. rw (ne-eqb (key i) x (λ q. let p : key n ≡ x = eqb-true (key n) x e in omega (arith, up i n b (lt-suc-self n)))) refl) in
     rw (e, before) (omega (arith, within n (lt-suc-self n))))
@@ -64,14 +65,14 @@ module _ (n : ℕ) (account day f : ℕ → ℕ)
     (up : (i j : ℕ) → i < j → j < n → (account i < account j) ⊎ ((account i ≡ account j) × (day i < day j)))
     (from-one : (i : ℕ) → i < n → 1 ≤ day i) (within : (i : ℕ) → i < n → f i ≤ mostLoad) (x : ℕ) where
   pub one-row-a-day : (k : ℕ) → k ≤ n → (last : ℕ) → ((i : ℕ) → i < k → account i ≡ x → day i ≤ last)
-      → sumTo k (λ i. when (eqb (account i) x) (f i)) ≤ last * mostLoad
-  unfolding sumTo
+      → sumWhere k account f x ≤ last * mostLoad
+  unfolding sumTo sumWhere
   one-row-a-day zero h last days = omega arith
   one-row-a-day (suc k) h last days =
       ⊎-elim
       (λ (e : eqb (account k) x ≡ true).
       let its : account k ≡ x = eqb-true (account k) x e in
-      let earlier : sumTo k (λ i. when (eqb (account i) x) (f i)) ≤ (day k - 1) * mostLoad =
+      let earlier : sumWhere k account f x ≤ (day k - 1) * mostLoad =
       one-row-a-day k (le-of-suc-le h) (day k - 1)
       (λ i b q. ⊎-elim (λ l. omega arith) (λ p. omega arith) (up i k b h)) in
       rw e (omega (arith, within k h, from-one k h, days k (lt-suc-self k) its)))

@@ -1,9 +1,4 @@
 pub mod Keys
-pub mod Adding
-pub mod Fronts
-pub mod Filling
-pub mod Crediting
-pub mod Serving
 pub mod Settling
 pub mod Writing
 pub mod Ranges

@@ -9,7 +9,7 @@ use native.Mathlib.Nat.{add-zero}
 use native.Mathlib.Omega.{arith}
 use lib.Dec.{eqb}
 use borrow.Author.Tests.{eq-eqb, ne-eqb, eqb-true, eqb-false}
-use Rattle.lists.specs.Sums.{sumTo, at, when, count}
+use Rattle.lists.specs.Sums.{at, when, count, sumWhere}
 use Rattle.lists.specs.Entries.{kept}
 use Rattle.lists.proofs.Sums.{sum-eq, when-true, when-zero, when-false}
 use Rattle.lists.proofs.Ranks.{true-or-false}
@@ -25,36 +25,36 @@ use Rattle.service.proofs.Promises as promises
 use Rattle.tables.specs.declared.Table.the-variants.{Zones}
 use Rattle.tables.specs.Shape.{Tables}
 use Rattle.tables.specs.Columns.{zoneNumber, ownerZone, accountZone}
-use Rattle.settlement.specs.Input.{Input, zoneCount, ownerCount, accountCount}
-use Rattle.settlement.specs.Accounts.{accountUse}
-use Rattle.settlement.specs.Network.{networkPots, networkCredit}
-use Rattle.settlement.specs.Services.{zonePart, nonzonePart, serviceIn, serviceCharge}
+use Rattle.pool.specs.Input.{Input, zoneCount, ownerCount, accountCount}
+use Rattle.pool.specs.Accounts.{accountUse}
+use Rattle.pool.specs.Network.{networkPots, networkCredit}
+use Rattle.pool.specs.Services.{zonePart, nonzonePart, serviceIn, serviceCharge}
 use Rattle.settlement.specs.Accepted.{Accepted}
 use Rattle.settlement.proofs.Keys.{distinct}
 use Rattle.settlement.proofs.Ranges.{zones-ascend}
 
 -- an account outside zone 0 has its use as zone part and no non-zone part, one of zone 0 the other way round
-module _ (m : Input) (s a : ℕ) where
+module _ (m : Input) (a : ℕ) where
   open Tables (m .tables) using (accounts)
 
-  pub zone-part-is-use : accountZone accounts a ≢ 0 → zonePart m s a ≡ accountUse m a
+  pub zone-part-is-use : accountZone accounts a ≢ 0 → zonePart accounts (accountUse m) a ≡ accountUse m a
   unfolding zonePart
   zone-part-is-use d = rw (ne-eqb (accountZone accounts a) 0 d)
 
-  pub no-nonzone-part : accountZone accounts a ≢ 0 → nonzonePart m s a ≡ 0
+  pub no-nonzone-part : accountZone accounts a ≢ 0 → nonzonePart accounts (accountUse m) a ≡ 0
   unfolding nonzonePart
   no-nonzone-part d = rw (ne-eqb (accountZone accounts a) 0 d)
 
-  pub nonzone-part-is-use : accountZone accounts a ≡ 0 → nonzonePart m s a ≡ accountUse m a
+  pub nonzone-part-is-use : accountZone accounts a ≡ 0 → nonzonePart accounts (accountUse m) a ≡ accountUse m a
   unfolding nonzonePart
   nonzone-part-is-use e = rw (eq-eqb (accountZone accounts a) 0 e)
 
-  pub no-zone-part : accountZone accounts a ≡ 0 → zonePart m s a ≡ 0
+  pub no-zone-part : accountZone accounts a ≡ 0 → zonePart accounts (accountUse m) a ≡ 0
   unfolding zonePart
   no-zone-part e = rw (eq-eqb (accountZone accounts a) 0 e)
 
   -- without use there are no parts
-  pub idle-parts : accountUse m a ≡ 0 → (zonePart m s a ≡ 0) × (nonzonePart m s a ≡ 0)
+  pub idle-parts : accountUse m a ≡ 0 → (zonePart accounts (accountUse m) a ≡ 0) × (nonzonePart accounts (accountUse m) a ≡ 0)
   unfolding zonePart nonzonePart
   idle-parts e =
       (when-zero (not (eqb (accountZone accounts a) 0)) (accountUse m a) e, when-zero (eqb (accountZone accounts a) 0) (accountUse m a) e)
@@ -78,7 +78,7 @@ module _ {m : Input} {lentCharges lentCredits : ℕ} (all : Accepted m lentCharg
     pays-its-zone-side a z b h e =
         promises.charge-in-a-zone (serviceIn m s) fine a z b h e (zones-distinct z h)
         ∙ ap (λ k. service.zoneShare (serviceIn m s) z a + k)
-        (promises.nonzone-sides-to-nobody-else (serviceIn m s) fine a b (no-nonzone-part m s a (λ q. zone-not-zero z h (sym e ∙ q))))
+        (promises.nonzone-sides-to-nobody-else (serviceIn m s) fine a b (no-nonzone-part m a (λ q. zone-not-zero z h (sym e ∙ q))))
         ∙ add-zero (service.zoneShare (serviceIn m s) z a)
 
     -- what an account of zone 0 pays
@@ -96,8 +96,8 @@ module _ {m : Input} {lentCharges lentCredits : ℕ} (all : Accepted m lentCharg
     zone-side-alone a z b h e =
         promises.zone-share-among-its-accounts (serviceIn m s) fine z a h b e
         ∙ ap (λ l. at (shares (service.zoneSide (serviceIn m s) z) l) (count a (λ c. eqb (accountZone accounts c) (zoneNumber zones z))))
-        (kept-eq (accountCount m) (λ c. eqb (accountZone accounts c) (zoneNumber zones z)) (zonePart m s) (accountUse m)
-        (λ c l q. zone-part-is-use m s c (λ o. zone-not-zero z h (sym (eqb-true (accountZone accounts c) (zoneNumber zones z) q) ∙ o))))
+        (kept-eq (accountCount m) (λ c. eqb (accountZone accounts c) (zoneNumber zones z)) (zonePart accounts (accountUse m)) (accountUse m)
+        (λ c l q. zone-part-is-use m c (λ o. zone-not-zero z h (sym (eqb-true (accountZone accounts c) (zoneNumber zones z) q) ∙ o))))
 
     pub non-zone-pot-alone : (a : ℕ) → a < accountCount m → accountZone accounts a ≡ 0
         → service.nonzoneShare (serviceIn m s) a
@@ -105,15 +105,16 @@ module _ {m : Input} {lentCharges lentCredits : ℕ} (all : Accepted m lentCharg
         (count a (λ b. eqb (accountZone accounts b) 0))
     unfolding service.nonzoneShare turn.nonzoneRefusal service.nonzoneParts
     non-zone-pot-alone a b e =
-        share-alone (accountCount m) (nonzonePart m s) (λ c. eqb (accountZone accounts c) 0)
-        (λ c l q. no-nonzone-part m s c (eqb-false (accountZone accounts c) 0 q))
+        share-alone (accountCount m) (nonzonePart accounts (accountUse m)) (λ c. eqb (accountZone accounts c) 0)
+        (λ c l q. no-nonzone-part m c (eqb-false (accountZone accounts c) 0 q))
         (service.nonzonePot (serviceIn m s)) (fine .nonzone-fine) a b (eq-eqb (accountZone accounts a) 0 e)
         ∙ ap (λ l. at (shares (service.nonzonePot (serviceIn m s)) l) (count a (λ c. eqb (accountZone accounts c) 0)))
-        (kept-eq (accountCount m) (λ c. eqb (accountZone accounts c) 0) (nonzonePart m s) (accountUse m)
-        (λ c l q. nonzone-part-is-use m s c (eqb-true (accountZone accounts c) 0 q)))
+        (kept-eq (accountCount m) (λ c. eqb (accountZone accounts c) 0) (nonzonePart accounts (accountUse m)) (accountUse m)
+        (λ c l q. nonzone-part-is-use m c (eqb-true (accountZone accounts c) 0 q)))
 
     -- all of the non-zone pot is zone 0's accounts'
-    pub non-zone-pot-to-zone-0 : sumTo (accountCount m) (λ a. when (eqb (accountZone accounts a) 0) (service.nonzoneShare (serviceIn m s) a)) ≡ service.nonzonePot (serviceIn m s)
+    pub non-zone-pot-to-zone-0 : sumWhere (accountCount m) (accountZone accounts) (service.nonzoneShare (serviceIn m s)) 0 ≡ service.nonzonePot (serviceIn m s)
+    unfolding sumWhere
     non-zone-pot-to-zone-0 =
         sum-eq (accountCount m) (λ a. when (eqb (accountZone accounts a) 0) (service.nonzoneShare (serviceIn m s) a)) (service.nonzoneShare (serviceIn m s))
         (λ a b.
@@ -121,7 +122,7 @@ module _ {m : Input} {lentCharges lentCredits : ℕ} (all : Accepted m lentCharg
         (λ (q : eqb (accountZone accounts a) 0 ≡ true). when-true (eqb (accountZone accounts a) 0) (service.nonzoneShare (serviceIn m s) a) q)
         (λ (q : eqb (accountZone accounts a) 0 ≡ false).
         when-false (eqb (accountZone accounts a) 0) (service.nonzoneShare (serviceIn m s) a) q
-        ∙ sym (promises.nonzone-sides-to-nobody-else (serviceIn m s) fine a b (no-nonzone-part m s a (eqb-false (accountZone accounts a) 0 q))))
+        ∙ sym (promises.nonzone-sides-to-nobody-else (serviceIn m s) fine a b (no-nonzone-part m a (eqb-false (accountZone accounts a) 0 q))))
         (true-or-false (eqb (accountZone accounts a) 0)))
         ∙ laws.nonzone-add-up (serviceIn m s) (fine .nonzone-fine)
 

@@ -2,17 +2,15 @@
 -- services and the tables promise.
 -- Assumes nothing.
 use mathlib.Core.Path.{_≡_, refl, sym, ap, _∙_}
-use mathlib.Core.Logic.{_↔_, ⊎-elim, _≢_}
-use mathlib.Core.Bool.{true, false}
+use mathlib.Core.Logic.{_↔_, _≢_}
 use Prim.Native.Nat.{ℕ, _+_, _<_, _*_, _≤_}
 use native.Mathlib.Omega.{arith}
 use mathlib.Core.List.{List}
 use lib.Dec.{eqb}
-use borrow.Author.Tests.{eq-eqb, ne-eqb, eqb-true}
-use Rattle.lists.specs.Sums.{sumTo, at, when, count}
+use borrow.Author.Tests.{eq-eqb, ne-eqb}
+use Rattle.lists.specs.Sums.{sumTo, when, sumWhere, count, at}
 use Rattle.lists.specs.Entries.{kept}
-use Rattle.lists.proofs.Sums.{sum-eq, sum-zero, when-false}
-use Rattle.lists.proofs.Ranks.{true-or-false}
+use Rattle.lists.proofs.Sums.{sum-zero, where-eq}
 use Rattle.answer.specs.declared.Answer.{Answer}
 use Rattle.answer.specs.Numbers.{BIG, BASE}
 use Rattle.division.specs.Shares.{shares}
@@ -26,10 +24,10 @@ use Rattle.service.proofs.Promises as service
 use Rattle.tables.specs.Shape.{chargeWidth, creditWidth, Tables}
 use Rattle.tables.specs.Columns.{zoneNumber, ownerNumber, ownerZone, ownerRequirement, unitOwner, accountZone, zoneRate, accountNumber, reservationAccount, reservationReserved, reservationCurtailed}
 use Rattle.tables.specs.Limits.{blackStart, reactive}
-use Rattle.settlement.specs.Input.{Input, zoneCount, ownerCount, unitCount, accountCount, reservationCount}
-use Rattle.settlement.specs.Accounts.{accountUse, reserved, curtailed}
-use Rattle.settlement.specs.Network.{chargesIn, networkPots, networkCredit, requirements, nonzoneCredit, nonzoneRefusal, rate}
-use Rattle.settlement.specs.Services.{partOf, creditIn, serviceCredit, zonePot, serviceIn, serviceCharge}
+use Rattle.pool.specs.Input.{Input, zoneCount, ownerCount, unitCount, accountCount, reservationCount}
+use Rattle.pool.specs.Accounts.{accountUse, reserved, curtailed}
+use Rattle.pool.specs.Network.{chargesIn, networkPots, networkCredit, requirements, nonzoneCredit, nonzoneRefusal, rate}
+use Rattle.pool.specs.Services.{creditIn, serviceCredit, zonePot, serviceIn, serviceCharge}
 use Rattle.settlement.specs.Settled.{answerOf, chargeOf, creditOf, Settled}
 use Rattle.settlement.specs.Accepted.{IsService, Accepted}
 use Rattle.settlement.proofs.Accepting.{answer-accepted, accepted-answer}
@@ -110,20 +108,12 @@ module _ {m : Input} {lentCharges lentCredits : ℕ} (all : Accepted m lentCharg
   network-credit-is-from-own-zone = parts.credit-from-own-zone all
 
   pub zone-charges-are-credits : (z : ℕ) → z < zoneCount m
-      → chargesIn m (zoneNumber zones z) ≡ sumTo (ownerCount m) (λ o. when (eqb (ownerZone owners o) (zoneNumber zones z)) (networkCredit m o))
+      → chargesIn m (zoneNumber zones z) ≡ sumWhere (ownerCount m) (ownerZone owners) (networkCredit m) (zoneNumber zones z)
+  unfolding sumWhere
   zone-charges-are-credits z b =
       sym (members-have-all (networkPots m) z (all .zones-fine z b))
-      ∙ sum-eq (ownerCount m) (λ o. when (eqb (ownerZone owners o) (zoneNumber zones z)) (amount (networkPots m) z o))
-      (λ o. when (eqb (ownerZone owners o) (zoneNumber zones z)) (networkCredit m o))
-      (λ o h.
-      ⊎-elim
-      (λ (q : eqb (ownerZone owners o) (zoneNumber zones z) ≡ true).
-      ap (when (eqb (ownerZone owners o) (zoneNumber zones z)))
-      (sym (parts.credit-from-own-zone all o z h b (eqb-true (ownerZone owners o) (zoneNumber zones z) q))))
-      (λ (q : eqb (ownerZone owners o) (zoneNumber zones z) ≡ false).
-      when-false (eqb (ownerZone owners o) (zoneNumber zones z)) (amount (networkPots m) z o) q
-      ∙ sym (when-false (eqb (ownerZone owners o) (zoneNumber zones z)) (networkCredit m o) q))
-      (true-or-false (eqb (ownerZone owners o) (zoneNumber zones z))))
+      ∙ where-eq (ownerCount m) (ownerZone owners) (amount (networkPots m) z) (zoneNumber zones z) (networkCredit m)
+      (λ o h e. sym (parts.credit-from-own-zone all o z h b e))
 
   -- all zones' network charges add up to all network credits
   pub all-zone-charges-are-credits : sumTo (zoneCount m) (λ z. chargesIn m (zoneNumber zones z)) ≡ sumTo (ownerCount m) (networkCredit m)
@@ -164,43 +154,26 @@ module _ {m : Input} {lentCharges lentCredits : ℕ} (all : Accepted m lentCharg
 
     -- a zone side is fully charged to that zone's accounts, and is all that these are charged
     pub zone-side-to-its-accounts : (z : ℕ) → z < zoneCount m
-        → sumTo (accountCount m) (λ a. when (eqb (accountZone accounts a) (zoneNumber zones z)) (serviceCharge m s a)) ≡ zoneSide (serviceIn m s) z
+        → sumWhere (accountCount m) (accountZone accounts) (serviceCharge m s) (zoneNumber zones z) ≡ zoneSide (serviceIn m s) z
+    unfolding sumWhere
     zone-side-to-its-accounts z b =
-        sum-eq (accountCount m) (λ a. when (eqb (accountZone accounts a) (zoneNumber zones z)) (serviceCharge m s a))
-        (λ a. when (eqb (accountZone accounts a) (zoneNumber zones z)) (zoneShare (serviceIn m s) z a))
-        (λ a h.
-        ⊎-elim
-        (λ (q : eqb (accountZone accounts a) (zoneNumber zones z) ≡ true).
-        ap (when (eqb (accountZone accounts a) (zoneNumber zones z)))
-        (parts.pays-its-zone-side all s (all .service-fine s i) a z h b (eqb-true (accountZone accounts a) (zoneNumber zones z) q)))
-        (λ (q : eqb (accountZone accounts a) (zoneNumber zones z) ≡ false).
-        when-false (eqb (accountZone accounts a) (zoneNumber zones z)) (serviceCharge m s a) q
-        ∙ sym (when-false (eqb (accountZone accounts a) (zoneNumber zones z)) (zoneShare (serviceIn m s) z a) q))
-        (true-or-false (eqb (accountZone accounts a) (zoneNumber zones z))))
+        where-eq (accountCount m) (accountZone accounts) (serviceCharge m s) (zoneNumber zones z) (zoneShare (serviceIn m s) z)
+        (λ a h e. parts.pays-its-zone-side all s (all .service-fine s i) a z h b e)
         ∙ service.zone-side-to-its-accounts (serviceIn m s) (all .service-fine s i) z b
 
     -- the non-zone sides of all zones are fully charged to zone 0's accounts, and are all that these are charged
-    pub non-zone-sides-to-zone-0 : sumTo (accountCount m) (λ a. when (eqb (accountZone accounts a) 0) (serviceCharge m s a)) ≡ sumTo (zoneCount m) (nonzoneSide (serviceIn m s))
+    pub non-zone-sides-to-zone-0 : sumWhere (accountCount m) (accountZone accounts) (serviceCharge m s) 0 ≡ sumTo (zoneCount m) (nonzoneSide (serviceIn m s))
     unfolding nonzonePot
     non-zone-sides-to-zone-0 =
-        sum-eq (accountCount m) (λ a. when (eqb (accountZone accounts a) 0) (serviceCharge m s a))
-        (λ a. when (eqb (accountZone accounts a) 0) (nonzoneShare (serviceIn m s) a))
-        (λ a h.
-        ⊎-elim
-        (λ (q : eqb (accountZone accounts a) 0 ≡ true).
-        ap (when (eqb (accountZone accounts a) 0))
-        (parts.pays-the-non-zone-pot all s (all .service-fine s i) a h (eqb-true (accountZone accounts a) 0 q)))
-        (λ (q : eqb (accountZone accounts a) 0 ≡ false).
-        when-false (eqb (accountZone accounts a) 0) (serviceCharge m s a) q
-        ∙ sym (when-false (eqb (accountZone accounts a) 0) (nonzoneShare (serviceIn m s) a) q))
-        (true-or-false (eqb (accountZone accounts a) 0)))
+        where-eq (accountCount m) (accountZone accounts) (serviceCharge m s) 0 (nonzoneShare (serviceIn m s))
+        (parts.pays-the-non-zone-pot all s (all .service-fine s i))
         ∙ parts.non-zone-pot-to-zone-0 all s (all .service-fine s i)
 
     -- an account that uses nothing is charged nothing
     pub idle-account-is-free : (a : ℕ) → a < accountCount m → accountUse m a ≡ 0 → serviceCharge m s a ≡ 0
     unfolding serviceCharge
     idle-account-is-free a b e =
-        service.idle-account-is-free (serviceIn m s) (all .service-fine s i) a b (parts.idle-parts m s a e .0) (parts.idle-parts m s a e .1)
+        service.idle-account-is-free (serviceIn m s) (all .service-fine s i) a b (parts.idle-parts m a e .0) (parts.idle-parts m a e .1)
 
     -- the paper's words, "divided among that zone's accounts by use": the zone's accounts as a list of their own ..
     pub charge-among-zone-accounts : (a z : ℕ) → a < accountCount m → z < zoneCount m → accountZone accounts a ≡ zoneNumber zones z
@@ -230,7 +203,7 @@ module _ {m : Input} {lentCharges lentCredits : ℕ} (all : Accepted m lentCharg
 
 -- an owner without units has no service credit
 pub no-units-no-credit : (m : Input) (s o : ℕ) → ((u : ℕ) → u < unitCount m → unitOwner (m .tables .units) u ≢ ownerNumber (m .tables .owners) o) → serviceCredit m s o ≡ 0
-unfolding serviceCredit partOf
+unfolding serviceCredit sumWhere
 no-units-no-credit m s o none =
     sum-zero (unitCount m) (λ u. when (eqb (unitOwner (m .tables .units) u) (ownerNumber (m .tables .owners) o)) (creditIn m s u))
     (λ u b. rw (ne-eqb (unitOwner (m .tables .units) u) (ownerNumber (m .tables .owners) o) (none u b)))

@@ -1,37 +1,32 @@
 -- What the figures of a good month can be at most: from the range of each entry, from one load a day and account, and from one
 -- reservation an account.
 -- Assumes nothing.
-use mathlib.Core.Bool.{Bool, true, false, cond}
+use mathlib.Core.Bool.{true, false, cond}
 use Prim.Native.Nat.{ℕ, _*_, _^_, _≤_, _<_}
-use native.Mathlib.Nat.{le-trans, le-of-eq, le-refl, lt-of-le-of-lt, mul-le-mul-right}
+use native.Mathlib.Nat.{le-refl, lt-of-le-of-lt}
 use native.Mathlib.Omega.{arith}
 use mathlib.Core.Path.{_≡_, sym}
 use mathlib.Core.Logic.{_≢_}
 use borrow.Author.Tests.{eq-eqb, ne-eqb}
 use lib.Dec.{eqb}
-use Rattle.lists.specs.Sums.{sumTo, when}
-use Rattle.lists.proofs.Sums.{sum-le, sum-const}
+use Rattle.lists.proofs.Sums.{sum-at-most, where-mono}
 use Rattle.tables.specs.declared.Table.{Table}
 use Rattle.tables.specs.declared.Table.the-variants.{Zones, Owners, Units, Accounts, Loads, Reservations}
-use Rattle.tables.specs.Shape.{rows, width, limit, Tables, wordsOf}
-use Rattle.tables.specs.Columns.{entry, zoneNumber, zoneRate, ownerNumber, unitRequirement, accountNumber, accountZone, loadAccount, loadDay, loadContribution, reservationAccount, reservationReserved, reservationCurtailed}
+use Rattle.tables.specs.Shape.{rows, limit, Tables, wordsOf}
+use Rattle.tables.specs.Columns.{zoneNumber, zoneRate, ownerNumber, unitRequirement, accountNumber, accountZone, loadAccount, loadDay, loadContribution, reservationAccount, reservationReserved, reservationCurtailed}
 use Rattle.judgement.specs.Good.{Above}
 use Rattle.judgement.proofs.Promises.{strictly-ascend}
 use Rattle.month.specs.Limits.{mostRate, mostLoad, mostEnergy, mostContributions}
 use Rattle.month.proofs.Months.{InYear, month-within, twelfth-within}
 use Rattle.month.proofs.Quantities as quantities
-use Rattle.settlement.specs.Input.{Input, zoneCount, ownerCount, unitCount}
-use Rattle.settlement.specs.Accounts.{contributions, reserved, curtailed, accountUse}
-use Rattle.settlement.specs.Network.{rateOf, rate, networkCharge}
-use Rattle.settlement.specs.Services.{unitCredit}
+use Rattle.pool.specs.Input.{Input, zoneCount, ownerCount, unitCount}
+use Rattle.pool.specs.Accounts.{reservedOf, curtailedOf, contributions, reserved, curtailed, accountUse}
+use Rattle.pool.specs.Network.{zoneRateOf, rateOf, rate, networkCharge}
+use Rattle.pool.specs.Services.{unitCredit}
 use Rattle.settlement.specs.Accepted.{Good}
-use Rattle.settlement.specs.Steps.{summed, Summable, Settleable}
+use Rattle.pool.specs.Steps.{Fit, mostUse, mostCharge, mostCredit}
+use Rattle.settlement.specs.Steps.{Settleable}
 use Rattle.settlement.proofs.Keys.{Ascends, entry-of, one-row-at-most, one-row-a-day}
-
--- so many figures, each at most so much
-pub at-most : (n limit most : ℕ) (f : ℕ → ℕ) → n ≤ limit → ((i : ℕ) → i < n → f i ≤ most) → sumTo n f ≤ limit * most
-at-most n limit most f few within =
-    le-trans (sum-le n f (λ i. most) within) (le-trans (le-of-eq (sum-const n most)) (mul-le-mul-right most few))
 
 module _ (m : Input) (lentCharges lentCredits : ℕ) (good : Good m lentCharges lentCredits) where
   open Tables (m .tables) using (zones, owners, units, accounts, loads, reservations)
@@ -56,7 +51,7 @@ module _ (m : Input) (lentCharges lentCredits : ℕ) (good : Good m lentCharges 
       (sym (entry-of (zoneCount m) (zoneNumber zones) zones-ascend (zoneRate zones) z (accountZone accounts a) b (sym e))))
 
   pub rate-at-the-border : (a : ℕ) → accountZone accounts a ≡ 0 → rate m a ≡ m .nonzone
-  unfolding rate
+  unfolding rate rateOf
   rate-at-the-border a e = rw (eq-eqb (accountZone accounts a) 0 e)
 
   -- .. and its energy that of its own reservation
@@ -80,89 +75,70 @@ module _ (m : Input) (lentCharges lentCredits : ℕ) (good : Good m lentCharges 
       (λ i b e. good .tables Loads i b .in-range .day .most) in
       omega (arith, by-days, in-year .short)
 
-  pub reserved-of-within : (number : ℕ) → summed Reservations 1 reservations number ≤ mostEnergy
-  unfolding summed
-  reserved-of-within number =
-      one-row-at-most (rows Reservations reservations) (reservationAccount reservations) (reservationReserved reservations) number mostEnergy
+  pub reserved-of-within : (account : ℕ) → reservedOf reservations account ≤ mostEnergy
+  reserved-of-within account =
+      one-row-at-most (rows Reservations reservations) (reservationAccount reservations) (reservationReserved reservations) account mostEnergy
       (above Reservations) (λ i b. good .tables Reservations i b .in-range .reserved .most)
 
-  when-mono : (t : Bool) (x y : ℕ) → x ≤ y → when t x ≤ when t y
-  when-mono true x y h = h
-  when-mono false x y h = le-refl 0
-
-  pub curtailed-of-within : (number : ℕ) → summed Reservations 2 reservations number ≤ summed Reservations 1 reservations number
-  unfolding summed
-  curtailed-of-within number =
-      sum-le (rows Reservations reservations)
-      (λ r. when (eqb (reservationAccount reservations r) number) (reservationCurtailed reservations r))
-      (λ r. when (eqb (reservationAccount reservations r) number) (reservationReserved reservations r))
-      (λ r b.
-      when-mono (eqb (reservationAccount reservations r) number) (reservationCurtailed reservations r)
-      (reservationReserved reservations r) (good .tables Reservations r b .in-range .at-most-reserved))
+  pub curtailed-of-within : (account : ℕ) → curtailedOf reservations account ≤ reservedOf reservations account
+  curtailed-of-within account =
+      where-mono (rows Reservations reservations) (reservationAccount reservations) (reservationCurtailed reservations) account
+      (reservationReserved reservations) (λ r b. good .tables Reservations r b .in-range .at-most-reserved)
 
   pub reserved-within : (a : ℕ) → reserved m a ≤ mostEnergy
-  unfolding reserved summed
+  unfolding reserved
   reserved-within a = reserved-of-within (accountNumber accounts a)
 
   pub curtailed-within : (a : ℕ) → curtailed m a ≤ reserved m a
-  unfolding reserved curtailed summed
+  unfolding reserved curtailed
   curtailed-within a = curtailed-of-within (accountNumber accounts a)
 
-  pub use-within : (a : ℕ) → accountUse m a ≤ 2 * 10 ^ 9
+  pub use-within : (a : ℕ) → accountUse m a ≤ mostUse
   unfolding accountUse
   use-within a = quantities.use-within (contributions m a) (reserved m a) (curtailed m a) (contributions-within a) (reserved-within a)
 
-  rate-of-within : (zone : ℕ) → rateOf m zone ≤ mostRate
-  unfolding rateOf
-  rate-of-within zone =
+  zone-rate-within : (zone : ℕ) → zoneRateOf zones zone ≤ mostRate
+  zone-rate-within zone =
       one-row-at-most (zoneCount m) (zoneNumber zones) (zoneRate zones) zone mostRate zones-ascend
       (λ i b. good .tables Zones i b .in-range .rate .most)
 
   pub rate-within : (a : ℕ) → rate m a ≤ mostRate
-  unfolding rate
+  unfolding rate rateOf
   rate-within a =
-      elim (eqb (accountZone accounts a) 0) as (λ t. cond t (m .nonzone) (rateOf m (accountZone accounts a)) ≤ mostRate)
-      [ true ↦ good .frame .nonzone-in-range .most | false ↦ rate-of-within (accountZone accounts a) ]
+      elim (eqb (accountZone accounts a) 0) as (λ t. cond t (m .nonzone) (zoneRateOf zones (accountZone accounts a)) ≤ mostRate)
+      [ true ↦ good .frame .nonzone-in-range .most | false ↦ zone-rate-within (accountZone accounts a) ]
 
-  pub charge-within : (a : ℕ) → networkCharge m a ≤ 10 ^ 12
+  pub charge-within : (a : ℕ) → networkCharge m a ≤ mostCharge
   unfolding networkCharge
   charge-within a = quantities.charge-within (contributions m a) (rate m a) (contributions-within a) (rate-within a)
 
-  pub unit-credit-within : (u : ℕ) → u < unitCount m → unitCredit m u ≤ 2 * 10 ^ 12
+  pub unit-credit-within : (u : ℕ) → u < unitCount m → unitCredit m u ≤ mostCredit
   unfolding unitCredit
   unit-credit-within u b =
       let r = good .tables Units u b .in-range in
       omega (arith, twelfth-within (m .month) (unitRequirement units u) (in-year .last), r .requirement .most, r .reserve .most)
 
   -- every figure of a good month can be found, and added up
-  summable : (table : Table) (column most : ℕ) → column < width table → limit table * most < 2 ^ 64
-      → ((i : ℕ) → i < rows table (wordsOf (m .tables) table) → entry table column (wordsOf (m .tables) table) i ≤ most)
-      → Summable table column (wordsOf (m .tables) table)
-  summable table column most named fits within =
-      record {
-        named = named;
-        fits =
-            lt-of-le-of-lt
-            (at-most (rows table (wordsOf (m .tables) table)) (limit table) most (entry table column (wordsOf (m .tables) table))
-            (good .frame .counted table .few) within)
-            fits;
-      }
+  fit : (table : Table) (most : ℕ) (value : ℕ → ℕ) → limit table * most < 2 ^ 64
+      → ((i : ℕ) → i < rows table (wordsOf (m .tables) table) → value i ≤ most) → Fit (rows table (wordsOf (m .tables) table)) value
+  fit table most value fits within =
+      lt-of-le-of-lt (sum-at-most (rows table (wordsOf (m .tables) table)) (limit table) most value (good .frame .counted table .few) within) fits
 
   pub settleable : Settleable m
-  unfolding contributions rate rateOf
+  unfolding contributions rate
   settleable =
       record {
         fillable = record {
           few = good .frame .counted Accounts .few;
-          loads-column = summable Loads 2 mostLoad (omega arith) (omega arith) (λ i b. good .tables Loads i b .in-range .contribution .most);
+          loads-fit = fit Loads mostLoad (loadContribution loads) (omega arith) (λ i b. good .tables Loads i b .in-range .contribution .most);
           contributions-within = contributions-within;
           rated = record {
-            rates = summable Zones 1 mostRate (omega arith) (omega arith) (λ i b. good .tables Zones i b .in-range .rate .most);
+            rates-fit = fit Zones mostRate (zoneRate zones) (omega arith) (λ i b. good .tables Zones i b .in-range .rate .most);
             rate-within = rate-within;
           };
           energy = record {
-            reserved-column = summable Reservations 1 mostEnergy (omega arith) (omega arith) (λ i b. good .tables Reservations i b .in-range .reserved .most);
-            curtailed-column = summable Reservations 2 mostEnergy (omega arith) (omega arith) (λ i b. good .tables Reservations i b .in-range .curtailed .most);
+            reserved-fit = fit Reservations mostEnergy (reservationReserved reservations) (omega arith) (λ i b. good .tables Reservations i b .in-range .reserved .most);
+            curtailed-fit = fit Reservations mostEnergy (reservationCurtailed reservations) (omega arith) (λ i b. good .tables Reservations i b .in-range .curtailed .most);
             reserved-within = reserved-of-within;
             curtailed-within = curtailed-of-within;
           };

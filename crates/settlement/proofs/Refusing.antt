@@ -27,9 +27,9 @@ use Rattle.tables.specs.Limits.{blackStart, reactive}
 use Rattle.judgement.specs.Judgement.{judged}
 use Rattle.judgement.proofs.Judging.{judged-good}
 use Rattle.judgement.proofs.Promises as judgement
-use Rattle.settlement.specs.Input.{Input, zoneCount, ownerCount, accountCount}
-use Rattle.settlement.specs.Network.{networkPots, nonzoneRefusal}
-use Rattle.settlement.specs.Services.{serviceIn}
+use Rattle.pool.specs.Input.{Input, zoneCount, ownerCount, accountCount}
+use Rattle.pool.specs.Network.{networkPots, nonzoneRefusal}
+use Rattle.pool.specs.Services.{serviceIn}
 use Rattle.settlement.specs.Settled.{networkPlace, nonzonePlace, blackStartPlace, reactivePlace, laid, networkInTurn, divisionsInTurn, answerOf, chargeOf, creditOf, chargeWords, creditWords, Settled}
 use Rattle.settlement.specs.Accepted.{Good, Accepted}
 use Rattle.settlement.specs.Refused.{NetworkFine, Refused, by-tables, at-zone, at-nonzone, in-black-start, in-reactive, Places}

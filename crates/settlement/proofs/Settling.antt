@@ -4,7 +4,7 @@
 use mathlib.Core.Path.{_≡_, refl, sym, ap, ap₂, _∙_}
 use mathlib.Core.Bool.{not}
 use mathlib.Core.List.{List}
-use Prim.Native.Nat.{ℕ, _^_, _≤_}
+use Prim.Native.Nat.{ℕ, _≤_}
 use native.Mathlib.Nat.{le-trans, le-of-eq, lt-of-le-of-lt}
 use native.Mathlib.Omega.{arith}
 use lib.Dec.{eqb}
@@ -12,7 +12,7 @@ use lib.ListN.{length}
 use borrow.Author.Tests.{eq-eqb}
 use Rattle.lists.specs.Sums.{at, total, when}
 use Rattle.lists.specs.Entries.{listed, put}
-use Rattle.lists.proofs.Sums.{sum-eq}
+use Rattle.lists.proofs.Sums.{sum-at-most, where-eq}
 use Rattle.lists.proofs.Entries.{length-listed, put-eq, put-long, at-put}
 use Rattle.answer.specs.declared.Answer.{Answer}
 use Rattle.answer.specs.Numbers.{divisions}
@@ -27,13 +27,14 @@ use Rattle.tables.specs.declared.Table.the-variants.{Accounts}
 use Rattle.tables.specs.Shape.{limit, Tables}
 use Rattle.tables.specs.Columns.{zoneNumber, ownerRequirement, accountZone}
 use Rattle.tables.specs.Limits.{blackStart, reactive}
-use Rattle.settlement.specs.Input.{Input, zoneCount, ownerCount, accountCount}
-use Rattle.settlement.specs.Accounts.{contributions, reserved, curtailed, accountUse}
-use Rattle.settlement.specs.Network.{rateOf, rate, networkCharge, chargesIn, networkPots, networkCredit, requirements, nonzoneCredit, nonzoneRefusal}
-use Rattle.settlement.specs.Services.{unitCredit, creditIn, partOf, serviceCredit, zonePot, zonePart, nonzonePart, serviceIn, serviceCharge}
+use Rattle.pool.specs.Input.{Input, zoneCount, ownerCount, accountCount}
+use Rattle.pool.specs.Accounts.{contributions, reserved, curtailed, accountUse}
+use Rattle.pool.specs.Network.{rate, networkCharge, chargesIn, zonePots, networkPots, networkCredit, requirements, nonzoneCredit, nonzoneRefusal}
+use Rattle.pool.specs.Services.{unitCredit, creditIn, serviceCredit, zonePot, zonePart, nonzonePart, serviceIn, serviceCharge}
 use Rattle.settlement.specs.Settled.{blackStartPlace, reactivePlace, networkInTurn, divisionsInTurn}
-use Rattle.settlement.specs.Steps.{held, accountsInput, unitsInput, Filled, potsFrom, NetworkDivided, Divisible, serviceFrom, Usable, ServiceSettled, Settleable, Holds, ForAccounts, ForOwners, MonthDivided}
-use Rattle.settlement.proofs.Ranges as ranges
+use Rattle.pool.proofs.Crediting.{credited-all}
+use Rattle.pool.specs.Steps.{accountsInput, unitsInput, mostCharge, Filled, chargesFrom, NetworkDivided, Divisible, serviceFrom, Usable, ServiceSettled}
+use Rattle.settlement.specs.Steps.{Settleable, Holds, ForAccounts, ForOwners, MonthDivided}
 
 -- a column that n values were stored in holds them
 pub holds : (n : ℕ) (f : ℕ → ℕ) (before column : List ℕ) → column ≡ put n f before → n ≤ length before → Holds n f column
@@ -55,7 +56,7 @@ module _ (m : Input) where
   -- the columns of the accounts
   module _ {network networkAfter uses usesAfter : List ℕ} (filled : Filled forAccounts network networkAfter uses usesAfter) where
     pub holds-charges : accountCount m ≤ length network → Holds (accountCount m) (networkCharge m) networkAfter
-    unfolding networkCharge contributions rate rateOf
+    unfolding networkCharge contributions rate
     holds-charges long = holds (accountCount m) (networkCharge forAccounts) network networkAfter (filled .charged) long
 
     pub holds-uses : accountCount m ≤ length uses → Holds (accountCount m) (accountUse m) usesAfter
@@ -69,23 +70,21 @@ module _ (m : Input) where
           few-zones = can .creditable .few-zones;
           few-owners = can .few-owners;
           charges = record {
-            named = omega arith;
             long = charges .long;
             fits =
                 lt-of-le-of-lt
-                (ranges.at-most (accountCount m) (limit Accounts) (10 ^ 12) (at network) (can .fillable .few)
+                (sum-at-most (accountCount m) (limit Accounts) mostCharge (at network) (can .fillable .few)
                 (λ a b. le-trans (le-of-eq (charges .words a b)) (can .charge-within a)))
                 (omega arith);
           };
         }
 
-    holds-zone : (zone : ℕ) → held Accounts 2 accounts network zone ≡ chargesIn m zone
-    unfolding held chargesIn
+    holds-zone : (zone : ℕ) → chargesFrom accounts network zone ≡ chargesIn m zone
+    unfolding chargesIn
     holds-zone zone =
-        sum-eq (accountCount m) (λ a. when (eqb (accountZone accounts a) zone) (at network a)) (λ a. when (eqb (accountZone accounts a) zone) (networkCharge m a))
-        (λ a b. ap (when (eqb (accountZone accounts a) zone)) (charges .words a b))
+        where-eq (accountCount m) (accountZone accounts) (at network) zone (networkCharge m) (λ a b e. charges .words a b)
 
-    same-pots : groups.Same (potsFrom zones owners accounts network) (networkPots m)
+    same-pots : groups.Same (zonePots zones owners (chargesFrom accounts network)) (networkPots m)
     same-pots =
         record {
           same-members = refl;
@@ -98,7 +97,7 @@ module _ (m : Input) where
 
     -- the network divisions
     module _ {credits creditsAfter nonzonecredits nonzonecreditsAfter : List ℕ} {r : Answer}
-        (divided : NetworkDivided (potsFrom zones owners accounts network) (held Accounts 2 accounts network 0) (listed (ownerCount m) (ownerRequirement owners)) credits creditsAfter nonzonecredits nonzonecreditsAfter r) where
+        (divided : NetworkDivided (zonePots zones owners (chargesFrom accounts network)) (chargesFrom accounts network 0) (listed (ownerCount m) (ownerRequirement owners)) credits creditsAfter nonzonecredits nonzonecreditsAfter r) where
       pub network-answer : r ≡ networkInTurn m
       unfolding networkInTurn nonzoneRefusal requirements
       network-answer =
@@ -110,14 +109,14 @@ module _ (m : Input) where
       unfolding networkCredit
       holds-network-credits fine long =
           holds (ownerCount m) (networkCredit m) credits creditsAfter
-          (divided .credited fine ∙ put-eq (ownerCount m) _ (networkCredit m) credits (λ i b. groups.same-amounts same-pots i)) long
+          (credited-all divided fine .0 ∙ put-eq (ownerCount m) _ (networkCredit m) credits (λ i b. groups.same-amounts same-pots i)) long
 
       pub holds-nonzone-credits : r .number ≡ 0 → ownerCount m ≤ length nonzonecredits → Holds (ownerCount m) (nonzoneCredit m) nonzonecreditsAfter
       unfolding nonzoneCredit requirements
       holds-nonzone-credits fine long =
           holds (ownerCount m) (nonzoneCredit m) nonzonecredits nonzonecreditsAfter
-          (divided .nonzone-credited fine
-          ∙ ap (λ n. put n (at (shares (held Accounts 2 accounts network 0) (listed (ownerCount m) (ownerRequirement owners)))) nonzonecredits)
+          (credited-all divided fine .1
+          ∙ ap (λ n. put n (at (shares (chargesFrom accounts network 0) (listed (ownerCount m) (ownerRequirement owners)))) nonzonecredits)
           (length-listed (ownerCount m) (ownerRequirement owners))
           ∙ ap (λ pot. put (ownerCount m) (at (shares pot (listed (ownerCount m) (ownerRequirement owners)))) nonzonecredits) (holds-zone 0))
           long
@@ -159,7 +158,7 @@ module _ (m : Input) where
           holds (accountCount m) (serviceCharge m s) charges chargesAfter (served .lent ∙ (rw (eq-eqb (r .number) 0 fine))) long
 
       pub holds-service-credits : ownerCount m ≤ length credits → Holds (ownerCount m) (serviceCredit m s) creditsAfter
-      unfolding serviceCredit partOf creditIn unitCredit
+      unfolding serviceCredit creditIn unitCredit
       holds-service-credits long = holds (ownerCount m) (serviceCredit forUnits s) credits creditsAfter (settled .credited) long
 
   -- all divisions of the month: what the parts answer in turn, and what their columns hold
@@ -168,7 +167,7 @@ module _ (m : Input) where
       {credits creditsAfter nonzonecredits nonzonecreditsAfter blackstartcredits blackstartcreditsAfter reactivecredits reactivecreditsAfter : List ℕ}
       {first second third r : Answer} {blackstartplace reactiveplace : ℕ}
       (filled : Filled forAccounts network networkAfter uses usesAfter)
-      (divided : NetworkDivided (potsFrom zones owners accounts networkAfter) (held Accounts 2 accounts networkAfter 0) (listed (ownerCount m) (ownerRequirement owners)) credits creditsAfter nonzonecredits nonzonecreditsAfter first)
+      (divided : NetworkDivided (zonePots zones owners (chargesFrom accounts networkAfter)) (chargesFrom accounts networkAfter 0) (listed (ownerCount m) (ownerRequirement owners)) credits creditsAfter nonzonecredits nonzonecreditsAfter first)
       (served : ServiceSettled forUnits accounts usesAfter blackStart blackstartplace blackstart blackstartAfter blackstartcredits blackstartcreditsAfter second)
       (served-too : ServiceSettled forUnits accounts usesAfter reactive reactiveplace reactives reactivesAfter reactivecredits reactivecreditsAfter third)
       (there : blackstartplace ≡ blackStartPlace (zoneCount m)) (there-too : reactiveplace ≡ reactivePlace (zoneCount m))

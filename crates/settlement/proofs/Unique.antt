@@ -5,7 +5,7 @@ use mathlib.Core.Bool.{cond}
 use mathlib.Core.List.{List}
 use lib.Dec.{eqb}
 use Rattle.answer.specs.declared.Answer.{Answer}
-use Rattle.settlement.specs.Input.{Input}
+use Rattle.pool.specs.Input.{Input}
 use Rattle.settlement.specs.Settled.{chargeWords, creditWords, Settled}
 
 pub settle-unique : (m : Input) (charges charges₁ charges₂ credits credits₁ credits₂ : List _) (r₁ r₂ : Answer)

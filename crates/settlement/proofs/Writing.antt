@@ -16,7 +16,7 @@ use Rattle.answer.specs.Turns.{_then_}
 use Rattle.answer.proofs.Turns.{then-first, then-second}
 use Rattle.tables.specs.Shape.{chargeWidth, creditWidth}
 use Rattle.judgement.specs.Judgement.{judged}
-use Rattle.settlement.specs.Input.{Input, ownerCount, accountCount}
+use Rattle.pool.specs.Input.{Input, ownerCount, accountCount}
 use Rattle.settlement.specs.Settled.{threeOf, fourOf, laid, divisionsInTurn, answerOf, chargeOf, creditOf, chargeWords, creditWords, Settled}
 use Rattle.settlement.specs.Steps.{ColumnsHold, MonthDivided, GoodSettled}
 

@@ -7,9 +7,9 @@ use Rattle.groups.specs.Groups.{refusal}
 use Rattle.service.specs.Turn as service
 use Rattle.tables.specs.Limits.{blackStart, reactive}
 use Rattle.judgement.specs.Good.{GoodMonth}
-use Rattle.settlement.specs.Input.{Input, zoneCount}
-use Rattle.settlement.specs.Network.{networkPots, nonzoneRefusal}
-use Rattle.settlement.specs.Services.{serviceIn}
+use Rattle.pool.specs.Input.{Input, zoneCount}
+use Rattle.pool.specs.Network.{networkPots, nonzoneRefusal}
+use Rattle.pool.specs.Services.{serviceIn}
 
 -- an input that keeps every rule of the tables; the numbers are the lengths of the lent outputs
 abbrev pub Good : Input → ℕ → ℕ → Type 0

@@ -9,9 +9,9 @@ use Rattle.groups.specs.Groups.{refusal}
 use Rattle.service.specs.Turn as service
 use Rattle.tables.specs.Limits.{blackStart, reactive}
 use Rattle.judgement.specs.Refused as judgement
-use Rattle.settlement.specs.Input.{Input, zoneCount}
-use Rattle.settlement.specs.Network.{networkPots, nonzoneRefusal}
-use Rattle.settlement.specs.Services.{serviceIn}
+use Rattle.pool.specs.Input.{Input, zoneCount}
+use Rattle.pool.specs.Network.{networkPots, nonzoneRefusal}
+use Rattle.pool.specs.Services.{serviceIn}
 use Rattle.settlement.specs.Settled.{blackStartPlace, reactivePlace}
 use Rattle.settlement.specs.Accepted.{Good}
 

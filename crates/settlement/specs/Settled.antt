@@ -15,9 +15,9 @@ use Rattle.service.specs.Turn as service
 use Rattle.tables.specs.Shape.{chargeWidth, creditWidth}
 use Rattle.tables.specs.Limits.{blackStart, reactive}
 use Rattle.judgement.specs.Judgement.{judged}
-use Rattle.settlement.specs.Input.{Input, zoneCount, ownerCount, accountCount}
-use Rattle.settlement.specs.Network.{networkCharge, networkPots, networkCredit, nonzoneCredit, nonzoneRefusal}
-use Rattle.settlement.specs.Services.{serviceIn, serviceCharge, serviceCredit}
+use Rattle.pool.specs.Input.{Input, zoneCount, ownerCount, accountCount}
+use Rattle.pool.specs.Network.{networkCharge, networkPots, networkCredit, nonzoneCredit, nonzoneRefusal}
+use Rattle.pool.specs.Services.{serviceIn, serviceCharge, serviceCredit}
 
 -- "with k zones, network zones 0..k-1, network non-zone k ..": where each kind of division starts
 abbrev pub networkPlace : ℕ

@@ -1,28 +1,24 @@
-// The settlement of a month: network charges and credits, black start and reactive charges and credits, from the head and tables
-// 1 to 6 as plain numbers. An input is judged first, then every division is made in working memory, and only a month that is
-// accepted writes to the lent outputs. `specs/` says each charge and each credit in the paper's words, `proofs/Promises.antt` what
-// follows from it.
-ghost use mathlib.Core.Path.{_≡_};
-ghost use mathlib.Core.Bool.{true};
+// The settlement of a month, from the head and tables 1 to 6 as plain numbers: its answer, and the lent outputs. An input is judged
+// first, then every division is made in working memory, with `pool`'s charges and credits, and only a month that is accepted writes
+// to the lent outputs. `specs/` says what is answered and written, `proofs/Promises.antt` what follows from it.
 ghost use Prim.Native.Nat.{_*_, _≤_};
 ghost use lib.ListN.{length};
 ghost use Rattle.tables.specs.declared.Table.the-variants.{Owners, Accounts};
 ghost use Rattle.tables.specs.Shape.{rows, chargeWidth, creditWidth};
-ghost use Rattle.settlement.specs.Input.{inputOf};
+ghost use Rattle.pool.specs.Input.{inputOf};
 ghost use Rattle.settlement.specs.Settled.{Settled};
 ghost use Rattle.settlement.specs.Steps.{Settleable, ForAccounts, ForOwners, MonthDivided, GoodSettled};
 use answer::ACCEPTED;
 use answer::Answer;
 use month::Month;
+use pool::accounts;
+use pool::network;
+use pool::services;
 use tables::BLACK_START;
 use tables::REACTIVE;
 use tables::Table;
 
-mod accounts;
-mod columns;
-mod network;
 mod output;
-mod services;
 
 // Makes every division of a good month, in lent columns: one for each charge of an account and its use, one for each credit of an
 // owner.
@@ -59,6 +55,7 @@ fn divide_month(
         networkcredits,
         nonzonecredits,
     );
+    // With k zones the network has k + 1 divisions, so black start's begin at k + 1; it has 2k + 1, so reactive's begin at 3k + 2.
     let second = services::settle(
         BLACK_START,
         month,

@@ -1,6 +1,6 @@
 // The lent outputs of an accepted month: rows laid end to end, by a flat index.
 ghost use mathlib.Core.Path.{_≡_};
-ghost use Prim.Native.Nat.{ℕ, _*_, _/_, _≤_, _<_};
+ghost use Prim.Native.Nat.{_*_, _/_, _≤_, _<_};
 ghost use lib.ListN.{length};
 ghost use Rattle.lists.specs.Sums.{at};
 ghost use Rattle.lists.specs.Entries.{put};

@@ -13,7 +13,7 @@ use Rattle.text.specs.Numbers.{digits, decimal}
 use Rattle.text.specs.Lines.{fieldsText, lineText}
 use Rattle.monthfile.specs.Form.{monthForm}
 use Rattle.monthfile.specs.Reading.{got, Contents, reading}
-use Rattle.settlement.specs.Input.{Input}
+use Rattle.pool.specs.Input.{Input}
 use Rattle.statement_text.specs.Statement.{
   allCharges,
   allCredits,

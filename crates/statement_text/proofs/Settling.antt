@@ -28,7 +28,7 @@ use Rattle.monthfile.specs.Reading.{Outcome, got, refused, Rows, Contents, read
 use Rattle.monthfile.specs.Writing.{Fits}
 use Rattle.monthfile.specs.Calls.{nth, placeOf, fullSize, readRoom, readOutcome, readAnswer, tablesIn, filled, Reads}
 use Rattle.monthfile.proofs.Rooms.{room-enough}
-use Rattle.settlement.specs.Input.{Input, inputOf, ownerCount, accountCount}
+use Rattle.pool.specs.Input.{Input, inputOf, ownerCount, accountCount}
 use Rattle.settlement.specs.Settled.{laid, answerOf, chargeOf, creditOf, chargeWords, creditWords, Settled}
 use Rattle.settlement.specs.Steps.{Holds}
 use Rattle.statement_text.specs.Statement.{settledAnswer, monthOf}

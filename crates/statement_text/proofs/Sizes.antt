@@ -23,7 +23,7 @@ use Rattle.text.specs.Lines.{equals, separator, fieldsText, lineText}
 use Rattle.monthfile.specs.Form.{monthForm}
 use Rattle.monthfile.specs.Reading.{Outcome, got, refused, Contents, reading}
 use Rattle.monthfile.specs.Writing.{rowsText}
-use Rattle.settlement.specs.Input.{Input, ownerCount, accountCount}
+use Rattle.pool.specs.Input.{Input, ownerCount, accountCount}
 use Rattle.settlement.specs.Accepted.{Accepted}
 use Rattle.settlement.proofs.Accepting.{answer-accepted}
 use Rattle.statement_text.specs.Statement.{linesText, statementLines, settledAnswer, refuseLine, monthOf, settledText, foundText, mostBytes, statementOf}

@@ -15,7 +15,7 @@ use Rattle.tables.specs.declared.Table.the-variants.{Zones, Owners, Units, Acco
 use Rattle.tables.specs.Shape.{width, limit, chargeWidth, creditWidth, tablesOf, wordsOf}
 use Rattle.monthfile.specs.Form.{monthForm}
 use Rattle.monthfile.specs.Reading.{Outcome, got, refused, Contents, reading}
-use Rattle.settlement.specs.Input.{Input}
+use Rattle.pool.specs.Input.{Input}
 use Rattle.settlement.specs.Accepted.{Accepted}
 use Rattle.settlement.proofs.Accepting.{answer-accepted}
 use Rattle.statement_text.specs.declared.Shown.{Shown}

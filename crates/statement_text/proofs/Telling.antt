@@ -26,7 +26,7 @@ use Rattle.monthfile.specs.Reading.{Outcome, got, refused, Rows, tables}
 use Rattle.monthfile.specs.Writing.{rowsText, tablesText, AllFit}
 use Rattle.monthfile.specs.Calls.{nth}
 use Rattle.monthfile.proofs.Forms.{differs, allDiffer, tables-text}
-use Rattle.settlement.specs.Input.{Input, ownerCount, accountCount}
+use Rattle.pool.specs.Input.{Input, ownerCount, accountCount}
 use Rattle.settlement.specs.Settled.{laid, chargeOf, creditOf}
 use Rattle.settlement.specs.Accepted.{Accepted}
 use Rattle.statement_text.specs.Statement.{withNumber, rowsWith, linesText, allCharges, allCredits, statementLines}

@@ -10,7 +10,7 @@ use native.Mathlib.Omega.{arith}
 use lib.Arith.{digits-div, digits-mod, digits-lt}
 use lib.Dec.{eqb}
 use Rattle.lists.specs.Sums.{sumTo, at, when}
-use Rattle.lists.proofs.Sums.{sum-eq, sum-swap}
+use Rattle.lists.proofs.Sums.{sum-eq, sum-at-most, sum-swap}
 use Rattle.lists.proofs.Entries.{listed-eq}
 use Rattle.tables.specs.declared.Table.{Table}
 use Rattle.tables.specs.declared.Table.the-variants.{Owners, Units, Accounts}
@@ -18,15 +18,16 @@ use Rattle.tables.specs.Shape.{width, limit, rows, chargeWidth, creditWidth, wo
 use Rattle.tables.specs.Columns.{entry, ownerNumber, unitService, accountNumber}
 use Rattle.tables.specs.Limits.{blackStart, reactive}
 use Rattle.text.specs.Bytes.{bytes}
-use Rattle.settlement.specs.Input.{Input, ownerCount, unitCount, accountCount}
-use Rattle.settlement.specs.Network.{networkCharge}
-use Rattle.settlement.specs.Services.{unitCredit, creditIn, serviceCharge}
+use Rattle.pool.specs.Input.{Input, ownerCount, unitCount, accountCount}
+use Rattle.pool.specs.Network.{networkCharge}
+use Rattle.pool.specs.Services.{unitCredit, creditIn, serviceCharge}
 use Rattle.settlement.specs.Settled.{laid, chargeOf, creditOf}
 use Rattle.settlement.specs.Accepted.{IsService, Accepted}
+use Rattle.pool.specs.Steps.{mostCharge, mostCredit}
 use Rattle.settlement.specs.Steps.{Holds}
 use Rattle.settlement.proofs.Accepting.{answer-accepted}
 use Rattle.settlement.proofs.Balance as balance
-use Rattle.settlement.proofs.Ranges.{at-most, charge-within, unit-credit-within}
+use Rattle.settlement.proofs.Ranges.{charge-within, unit-credit-within}
 use Rattle.settlement.proofs.Promises as promises
 use Rattle.statement_text.specs.declared.figures.Figures.{Figures}
 use Rattle.statement_text.specs.Statement.{withNumber, rowsWith, linesText, allCharges, allCredits, statementLines, settledAnswer}
@@ -91,14 +92,14 @@ module _ {m : Input} {lentCharges lentCredits : ℕ} (all : Accepted m lentCharg
   few : (table : Table) → rows table (wordsOf (m .tables) table) ≤ limit table
   few table = all .good .frame .counted table .few
 
-  service-total : (s : ℕ) → IsService s → sumTo (accountCount m) (serviceCharge m s) ≤ 64 * (2 * 10 ^ 12)
+  service-total : (s : ℕ) → IsService s → sumTo (accountCount m) (serviceCharge m s) ≤ limit Units * mostCredit
   unfolding creditIn
   service-total s i =
       le-trans
       (le-of-eq
       (promises.service-charges-are-credits all s i ∙ balance.owners-have-credits m lentCharges lentCredits (all .good) s))
-      (at-most (unitCount m) 64 (2 * 10 ^ 12) (creditIn m s) (few Units)
-      (λ u b. when-within (eqb (unitService (m .tables .units) u) s) (unitCredit m u) (2 * 10 ^ 12) (unit-credit-within m lentCharges lentCredits (all .good) u b)))
+      (sum-at-most (unitCount m) (limit Units) mostCredit (creditIn m s) (few Units)
+      (λ u b. when-within (eqb (unitService (m .tables .units) u) s) (unitCredit m u) mostCredit (unit-credit-within m lentCharges lentCredits (all .good) u b)))
 
   -- the totals are equal, and below 2^64
   pub totals-equal : allCharges m ≡ allCredits m
@@ -110,7 +111,7 @@ module _ {m : Input} {lentCharges lentCredits : ℕ} (all : Accepted m lentCharg
   charges-small =
       omega (
         arith,
-        at-most (accountCount m) 32 (10 ^ 12) (networkCharge m) (few Accounts) (λ a b. charge-within m lentCharges lentCredits (all .good) a),
+        sum-at-most (accountCount m) (limit Accounts) mostCharge (networkCharge m) (few Accounts) (λ a b. charge-within m lentCharges lentCredits (all .good) a),
         service-total blackStart (inl refl),
         service-total reactive (inr refl),
       )

@@ -8,7 +8,7 @@ use native.Mathlib.Nat.{le-trans, le-of-eq}
 use Rattle.answer.specs.Turns.{_then_}
 use Rattle.tables.specs.declared.Table.the-variants.{Zones}
 use Rattle.tables.specs.Shape.{limit}
-use Rattle.settlement.specs.Input.{Input, inputOf}
+use Rattle.pool.specs.Input.{Input, inputOf}
 use Rattle.settlement.proofs.Settling.{holds-charges, holds-uses, divisible, usable, month-divided}
 use Rattle.settlement.proofs.divide_month.Statement.{statement}
 use Rattle.settlement.proofs.divide_month.Tie as tie
@@ -31,40 +31,35 @@ credit-requires c κs =
       (pre .1 .1 .network-room, pre .1 .1 .nonzone-room, pre .1 .1 .zeros),
     )
 
+few-zones : (c : tie.After-rows-in) → c .rows-in .result ≤ limit Zones
+few-zones c = le-trans (le-of-eq (c .rows-in .ensures)) (c .before .before .before .before .before .before .before .before .before .before .before .before .before .before .before .pre .0 .creditable .few-zones)
+
 add-settle : tie.Need-add-settle
-add-settle c =
-    let few : c .before .before .before .before .before .before .before .before .before .before .before .before .before .before .before .before .before .before .rows-in .result ≤ limit Zones = le-trans (le-of-eq (c .before .before .before .before .before .before .before .before .before .before .before .before .before .before .before .before .before .before .rows-in .ensures)) (c .before .before .before .before .before .before .before .before .before .before .before .before .before .before .before .before .before .before .before .before .before .before .before .before .before .before .before .before .before .before .before .before .before .pre .0 .creditable .few-zones) in
-    omega arith
+add-settle c = omega (arith, few-zones (c .before .before .before .before .before .before .before .before .before .before .before .before .before .before .before .before .before .before))
 
 settle-requires : tie.Need-settle-requires
 settle-requires c κs =
     let start = c .before .before .before .before .before .before .before .before .before .before .before .before .before .before .before .before .before .before .before .before .before .before .before .before .before .before .before .before .before .before .before .before .before in
     let a = start .args in
     let pre = start .pre in
-    let m : Input = inputOf (a .month .number) (a .month .days) (a .nonzone) (a .zones .now) (a .owners .now) (a .units .now) (a .accounts .now) (a .loads .now) (a .reservations .now) in
-    let few : c .before .before .before .before .before .before .before .before .before .before .before .before .before .before .before .before .before .before .rows-in .result ≤ limit Zones = le-trans (le-of-eq (c .before .before .before .before .before .before .before .before .before .before .before .before .before .before .before .before .before .before .rows-in .ensures)) (c .before .before .before .before .before .before .before .before .before .before .before .before .before .before .before .before .before .before .before .before .before .before .before .before .before .before .before .before .before .before .before .before .before .pre .0 .creditable .few-zones) in (
-      (pre .0 .creditable, usable m (holds-uses m (c .before .before .before .before .before .before .before .before .before .before .before .before .before .before .before .fill .ensures) (pre .1 .0 .uses-room)) (pre .0), omega arith),
+    let m : Input = inputOf (a .month .number) (a .month .days) (a .nonzone) (a .zones .now) (a .owners .now) (a .units .now) (a .accounts .now) (a .loads .now) (a .reservations .now) in (
+      (pre .0 .creditable, usable m (holds-uses m (c .before .before .before .before .before .before .before .before .before .before .before .before .before .before .before .fill .ensures) (pre .1 .0 .uses-room)) (pre .0), omega (arith, few-zones (c .before .before .before .before .before .before .before .before .before .before .before .before .before .before .before .before .before .before), pre .0 .creditable .few-zones)),
       (pre .1 .0 .blackstart-room, pre .1 .1 .blackstart-room),
     )
 
 mul-settle : tie.Need-mul-settle
-mul-settle c =
-    let few : c .before .before .before .before .before .before .before .before .before .before .before .before .before .before .before .before .before .before .before .before .before .before .before .before .before .before .rows-in .result ≤ limit Zones = le-trans (le-of-eq (c .before .before .before .before .before .before .before .before .before .before .before .before .before .before .before .before .before .before .before .before .before .before .before .before .before .before .rows-in .ensures)) (c .before .before .before .before .before .before .before .before .before .before .before .before .before .before .before .before .before .before .before .before .before .before .before .before .before .before .before .before .before .before .before .before .before .before .before .before .before .before .before .before .before .pre .0 .creditable .few-zones) in
-    omega arith
+mul-settle c = omega (arith, few-zones (c .before .before .before .before .before .before .before .before .before .before .before .before .before .before .before .before .before .before .before .before .before .before .before .before .before .before))
 
 add-settle-2 : tie.Need-add-settle-2
-add-settle-2 c =
-    let few : c .before .before .before .before .before .before .before .before .before .before .before .before .before .before .before .before .before .before .before .before .before .before .before .before .before .before .rows-in .result ≤ limit Zones = le-trans (le-of-eq (c .before .before .before .before .before .before .before .before .before .before .before .before .before .before .before .before .before .before .before .before .before .before .before .before .before .before .rows-in .ensures)) (c .before .before .before .before .before .before .before .before .before .before .before .before .before .before .before .before .before .before .before .before .before .before .before .before .before .before .before .before .before .before .before .before .before .before .before .before .before .before .before .before .before .pre .0 .creditable .few-zones) in
-    omega arith
+add-settle-2 c = omega (arith, few-zones (c .before .before .before .before .before .before .before .before .before .before .before .before .before .before .before .before .before .before .before .before .before .before .before .before .before .before))
 
 settle-requires-2 : tie.Need-settle-requires-2
 settle-requires-2 c κs =
     let start = c .before .before .before .before .before .before .before .before .before .before .before .before .before .before .before .before .before .before .before .before .before .before .before .before .before .before .before .before .before .before .before .before .before .before .before .before .before .before .before .before .before in
     let a = start .args in
     let pre = start .pre in
-    let m : Input = inputOf (a .month .number) (a .month .days) (a .nonzone) (a .zones .now) (a .owners .now) (a .units .now) (a .accounts .now) (a .loads .now) (a .reservations .now) in
-    let few : c .before .before .before .before .before .before .before .before .before .before .before .before .before .before .before .before .before .before .before .before .before .before .before .before .before .before .rows-in .result ≤ limit Zones = le-trans (le-of-eq (c .before .before .before .before .before .before .before .before .before .before .before .before .before .before .before .before .before .before .before .before .before .before .before .before .before .before .rows-in .ensures)) (c .before .before .before .before .before .before .before .before .before .before .before .before .before .before .before .before .before .before .before .before .before .before .before .before .before .before .before .before .before .before .before .before .before .before .before .before .before .before .before .before .before .pre .0 .creditable .few-zones) in (
-      (pre .0 .creditable, usable m (holds-uses m (c .before .before .before .before .before .before .before .before .before .before .before .before .before .before .before .before .before .before .before .before .before .before .before .fill .ensures) (pre .1 .0 .uses-room)) (pre .0), omega arith),
+    let m : Input = inputOf (a .month .number) (a .month .days) (a .nonzone) (a .zones .now) (a .owners .now) (a .units .now) (a .accounts .now) (a .loads .now) (a .reservations .now) in (
+      (pre .0 .creditable, usable m (holds-uses m (c .before .before .before .before .before .before .before .before .before .before .before .before .before .before .before .before .before .before .before .before .before .before .before .fill .ensures) (pre .1 .0 .uses-room)) (pre .0), omega (arith, few-zones (c .before .before .before .before .before .before .before .before .before .before .before .before .before .before .before .before .before .before .before .before .before .before .before .before .before .before), pre .0 .creditable .few-zones)),
       (pre .1 .0 .reactive-room, pre .1 .1 .reactive-room),
     )
 

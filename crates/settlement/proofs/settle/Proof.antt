@@ -5,7 +5,7 @@ use lib.ListN.{length}
 use borrow.Author.Needs.{needs}
 use Rattle.answer.specs.declared.Answer.{Answer}
 use Rattle.judgement.proofs.Judging.{judged-good}
-use Rattle.settlement.specs.Input.{Input, inputOf}
+use Rattle.pool.specs.Input.{Input, inputOf}
 use Rattle.settlement.specs.Accepted.{Good}
 use Rattle.settlement.proofs.Ranges.{settleable}
 use Rattle.settlement.proofs.Writing.{all-refused, all-settled}

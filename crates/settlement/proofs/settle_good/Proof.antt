@@ -3,7 +3,7 @@
 use borrow.Author.Needs.{needs}
 use Rattle.tables.specs.declared.Table.the-variants.{Owners}
 use Rattle.tables.specs.Shape.{limit}
-use Rattle.settlement.specs.Input.{Input, inputOf}
+use Rattle.pool.specs.Input.{Input, inputOf}
 use Rattle.settlement.proofs.Writing.{new-column, settled-refused, settled-accepted}
 use Rattle.settlement.proofs.settle_good.Statement.{statement}
 use Rattle.settlement.proofs.settle_good.Tie as tie

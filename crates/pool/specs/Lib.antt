@@ -1,0 +1,5 @@
+pub mod Input
+pub mod Accounts
+pub mod Network
+pub mod Services
+pub mod Steps
