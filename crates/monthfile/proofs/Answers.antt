@@ -29,11 +29,12 @@ use Rattle.monthfile.specs.declared.Written.{Written}
 use Rattle.monthfile.specs.Form.{monthForm, kindOf}
 use Rattle.monthfile.specs.Reading.{Outcome, got, refused, Rows, Contents, reading}
 use Rattle.monthfile.specs.Writing.{fileText, Fits, AllFit, Within}
-use Rattle.monthfile.specs.Calls.{contentsOf, rowsOf, allRows, nth, placeOf, fullSize, readRoom, readOutcome, readAnswer, tablesIn, filled, atFront, Reads, writeRefusal, textWritten, Writes}
+use Rattle.monthfile.specs.Calls.{contentsOf, monthText, rowsOf, allRows, nth, placeOf, fullSize, readRoom, readOutcome, readAnswer, tablesIn, filled, atFront, Reads, writeRefusal, textWritten, Writes}
 use Rattle.monthfile.specs.Refused.{Full, ReadRefused, by-room, by-text, by-count, WriteRefused, by-bad-table, by-short-room}
 use Rattle.monthfile.proofs.Forms.{FileBack, file-back}
 use Rattle.monthfile.proofs.Contents.{written-then-read}
 use Rattle.monthfile.proofs.Rooms.{nothing-filled}
+use Rattle.monthfile.proofs.Pieces.{none-written, all-written}
 use Rattle.monthfile.proofs.Refusals.{Stops, Unread, AtText, OverLimit, reading-stops, table-over}
 
 -- entries stored at the front of a lent list
@@ -167,18 +168,18 @@ module _ (text : List ℕ) (lent : Tables) where
         room-passed (stopped d why) = absurd (why .3 (full (why .0)))
 
 -- the looks at COUNT and ROOM, and the text that is written
-module _ (c : Contents) (t : Tables) (lent : List ℕ) where
+module _ (month days nonzone : ℕ) (t : Tables) (lent : List ℕ) where
   -- every table is whole rows within its limit and the text fits, or the refusal says why
   abbrev WriteLooked : Type 0
   WriteLooked =
-      Stage (((table : Table) → Counted t table) × (length (fileText monthForm c) ≤ length lent)) (WriteRefused c t (length lent))
-      (writeRefusal c t (length lent))
+      Stage (((table : Table) → Counted t table) × (length (monthText month days nonzone t) ≤ length lent)) (WriteRefused month days nonzone t (length lent))
+      (writeRefusal month days nonzone t (length lent))
 
   looks : WriteLooked
   unfolding writeRefusal counted roomFor
   looks =
       then-stage
-      (in-turn-stage (Counted t) (WriteRefused c t (length lent)) (λ table. counted table (length (wordsOf t table)))
+      (in-turn-stage (Counted t) (WriteRefused month days nonzone t (length lent)) (λ table. counted table (length (wordsOf t table)))
       (λ table before.
       look-stage COUNT (number table) 0 (omega arith)
       (reworded (λ p. record { whole = p .0; few = p .1 }) (λ r. (r .whole, r .few))
@@ -186,48 +187,42 @@ module _ (c : Contents) (t : Tables) (lent : List ℕ) where
       (by-bad-table table refl before)))
       (λ all.
       passed-on (λ fits. (all, fits))
-      (look-stage ROOM head 0 (omega arith) (at-least (length (fileText monthForm c)) (length lent)) (λ short. by-short-room refl all (omega arith))))
+      (look-stage ROOM head 0 (omega arith) (at-least (length (monthText month days nonzone t)) (length lent)) (λ short. by-short-room refl all (omega arith))))
 
-  text-none : writeRefusal c t (length lent) .number ≢ 0 → textWritten c t (length lent) ≡ []
-  unfolding textWritten
-  text-none d = rw (ne-eqb (writeRefusal c t (length lent) .number) 0 d)
-
-  text-whole : writeRefusal c t (length lent) ≡ accepted → textWritten c t (length lent) ≡ fileText monthForm c
-  unfolding textWritten
-  text-whole e = rw (eq-eqb (writeRefusal c t (length lent) .number) 0 (ap (λ (a : Answer). a .number) e))
-
-  module _ (after : List ℕ) (r : Written) (writes : Writes c t lent after r) where
+  module _ (after : List ℕ) (r : Written) (writes : Writes month days nonzone t lent after r) where
     refused-write : WriteLooked
-        → r .answer .number ≢ 0 → (r .length ≡ 0) × (after ≡ lent) × WriteRefused c t (length lent) (r .answer)
+        → r .answer .number ≢ 0 → (r .length ≡ 0) × (after ≡ lent) × WriteRefused month days nonzone t (length lent) (r .answer)
     refused-write (passed e g) d = absurd (d (ap (λ (a : Answer). a .number) (writes .answers ∙ e)))
     refused-write (stopped n why) d = (
-      writes .length-is ∙ ap length (text-none n),
-      writes .stores ∙ ap (stored lent 0) (text-none n) ∙ stored-none lent 0,
-      subst (WriteRefused c t (length lent)) (sym (writes .answers)) why,
+      writes .length-is ∙ ap length (none-written month days nonzone t (length lent) n),
+      writes .stores ∙ ap (stored lent 0) (none-written month days nonzone t (length lent) n) ∙ stored-none lent 0,
+      subst (WriteRefused month days nonzone t (length lent)) (sym (writes .answers)) why,
     )
 
     -- a refused write answers 0 and changes no lent byte
-    pub write-refused : r .answer .number ≢ 0 → (r .length ≡ 0) × (after ≡ lent) × WriteRefused c t (length lent) (r .answer)
+    pub write-refused : r .answer .number ≢ 0 → (r .length ≡ 0) × (after ≡ lent) × WriteRefused month days nonzone t (length lent) (r .answer)
     write-refused d = refused-write looks d
 
     written-by : WriteLooked
         → r .answer .number ≡ 0
-        → (r .length ≡ length (fileText monthForm c)) × (after ≡ atFront (fileText monthForm c) lent)
+        → (r .length ≡ length (monthText month days nonzone t)) × (after ≡ atFront (monthText month days nonzone t) lent)
     written-by (passed e g) z =
-        (writes .length-is ∙ ap length (text-whole e), writes .stores ∙ ap (stored lent 0) (text-whole e) ∙ stored-front lent (fileText monthForm c) (g .1))
+        let whole : textWritten month days nonzone t (length lent) ≡ monthText month days nonzone t =
+        all-written month days nonzone t (length lent) (ap (λ (a : Answer). a .number) e) in
+        (writes .length-is ∙ ap length whole, writes .stores ∙ ap (stored lent 0) whole ∙ stored-front lent (monthText month days nonzone t) (g .1))
     written-by (stopped n why) z = absurd (n (ap (λ (a : Answer). a .number) (sym (writes .answers)) ∙ z))
 
     -- an accepted write answers the text's length and has the text at the front, and behind it what was lent
     pub write-accepted : r .answer .number ≡ 0
-        → (r .length ≡ length (fileText monthForm c)) × (after ≡ atFront (fileText monthForm c) lent)
+        → (r .length ≡ length (monthText month days nonzone t)) × (after ≡ atFront (monthText month days nonzone t) lent)
     write-accepted z = written-by looks z
 
     -- tables of whole rows within their limits, in room for their text, are never refused
-    pub good-write : ((table : Table) → Counted t table) → length (fileText monthForm c) ≤ length lent → r .answer ≡ accepted
+    pub good-write : ((table : Table) → Counted t table) → length (monthText month days nonzone t) ≤ length lent → r .answer ≡ accepted
     good-write all fits = writes .answers ∙ go looks
       where
         go : WriteLooked
-            → writeRefusal c t (length lent) ≡ accepted
+            → writeRefusal month days nonzone t (length lent) ≡ accepted
         go (passed e g) = e
         go (stopped n (by-bad-table table e before bad)) = absurd (bad (all table))
         go (stopped n (by-short-room e counts short)) = absurd (omega arith)
@@ -261,24 +256,24 @@ module _ (month days nonzone : ℕ) (t : Tables) (small : Below (month ∷ days 
   held-words Loads = refl
   held-words Reservations = refl
 
-  module _ (out after : List ℕ) (w : Written) (writes : Writes (contentsOf month days nonzone t) t out after w) (z : w .answer .number ≡ 0) where
+  module _ (out after : List ℕ) (w : Written) (writes : Writes month days nonzone t out after w) (z : w .answer .number ≡ 0) where
     abbrev c : Contents
     c = contentsOf month days nonzone t
 
-    whole-rows : WriteLooked c t out → (table : Table) → Counted t table
+    whole-rows : WriteLooked month days nonzone t out → (table : Table) → Counted t table
     whole-rows (passed e g) = g .0
     whole-rows (stopped n why) = absurd (n (ap (λ (a : Answer). a .number) (sym (writes .answers)) ∙ z))
 
     text-again : take (w .length) after ≡ fileText monthForm c
     text-again =
-        let wrote = write-accepted c t out after w writes z in
+        let wrote = write-accepted month days nonzone t out after w writes z in
         ap (λ k. take k after) (wrote .0) ∙ ap (take (length (fileText monthForm c))) (wrote .1)
         ∙ take-append-seam (fileText monthForm c) (drop (length (fileText monthForm c)) out)
 
     pub write-then-read : (lent filledIn : Tables) (r : Reading) → Reads (take (w .length) after) lent filledIn r → ((table : Table) → Full lent table)
         → (r ≡ readAnswer (got c [])) × ((table : Table) → wordsOf filledIn table ≡ atFront (wordsOf t table) (wordsOf lent table))
     write-then-read lent filledIn r reads full =
-        let within : Within monthForm c = held-within (whole-rows (looks c t out)) in
+        let within : Within monthForm c = held-within (whole-rows (looks month days nonzone t out)) in
         let answer : r ≡ readAnswer (got c []) = good-read (take (w .length) after) lent filledIn r reads full c within text-again in
         let got-it = read-accepted (take (w .length) after) lent filledIn r reads (ap (λ (h : Reading). h .answer .number) answer) in
         let both-read : got c [] ≡ got (got-it .0) [] = sym (ap (reading monthForm) text-again ∙ written-then-read c within) ∙ got-it .1 in

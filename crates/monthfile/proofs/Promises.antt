@@ -17,7 +17,7 @@ use Rattle.monthfile.specs.declared.Written.{Written}
 use Rattle.monthfile.specs.Form.{monthForm}
 use Rattle.monthfile.specs.Reading.{Contents, got, refused, reading}
 use Rattle.monthfile.specs.Writing.{fileText, Within}
-use Rattle.monthfile.specs.Calls.{nth, placeOf, readAnswer, atFront, Reads, contentsOf, Writes}
+use Rattle.monthfile.specs.Calls.{nth, placeOf, readAnswer, atFront, Reads, contentsOf, monthText, Writes}
 use Rattle.monthfile.specs.Refused.{Full, ReadRefused, WriteRefused}
 use Rattle.monthfile.proofs.Contents as contents
 use Rattle.monthfile.proofs.Answers as answers
@@ -59,22 +59,22 @@ module _ (text : List ℕ) (lent after : Tables) (r : Reading) (reads : Reads te
   pub good-read : ((table : Table) → Full lent table) → (c : Contents) → Within monthForm c → text ≡ fileText monthForm c → r ≡ readAnswer (got c [])
   good-read = answers.good-read text lent after r reads
 
-module _ (c : Contents) (t : Tables) (lent after : List ℕ) (r : Written) (writes : Writes c t lent after r) where
+module _ (month days nonzone : ℕ) (t : Tables) (lent after : List ℕ) (r : Written) (writes : Writes month days nonzone t lent after r) where
   -- a refused write answers 0 as the length, changes no lent byte, and says why: COUNT or ROOM
-  pub refused-write : r .answer .number ≢ 0 → (r .length ≡ 0) × (after ≡ lent) × WriteRefused c t (length lent) (r .answer)
-  refused-write = answers.write-refused c t lent after r writes
+  pub refused-write : r .answer .number ≢ 0 → (r .length ≡ 0) × (after ≡ lent) × WriteRefused month days nonzone t (length lent) (r .answer)
+  refused-write = answers.write-refused month days nonzone t lent after r writes
 
   -- an accepted write answers the text's length, and has the text at the front and behind it what was lent
-  pub accepted-write : r .answer .number ≡ 0 → (r .length ≡ length (fileText monthForm c)) × (after ≡ atFront (fileText monthForm c) lent)
-  accepted-write = answers.write-accepted c t lent after r writes
+  pub accepted-write : r .answer .number ≡ 0 → (r .length ≡ length (monthText month days nonzone t)) × (after ≡ atFront (monthText month days nonzone t) lent)
+  accepted-write = answers.write-accepted month days nonzone t lent after r writes
 
   -- tables of whole rows within their limits are never refused where there is room for their text
-  pub good-write : ((table : Table) → Counted t table) → length (fileText monthForm c) ≤ length lent → r .answer ≡ accepted
-  good-write = answers.good-write c t lent after r writes
+  pub good-write : ((table : Table) → Counted t table) → length (monthText month days nonzone t) ≤ length lent → r .answer ≡ accepted
+  good-write = answers.good-write month days nonzone t lent after r writes
 
 -- what `write` wrote, `read` accepts, with the same head and the same rows
 pub write-then-read : (month days nonzone : ℕ) (t : Tables) → Below (month ∷ days ∷ nonzone ∷ []) → ((table : Table) → Below (wordsOf t table))
-    → (out after : List ℕ) (w : Written) → Writes (contentsOf month days nonzone t) t out after w → w .answer .number ≡ 0
+    → (out after : List ℕ) (w : Written) → Writes month days nonzone t out after w → w .answer .number ≡ 0
     → (lent filledIn : Tables) (r : Reading) → Reads (take (w .length) after) lent filledIn r → ((table : Table) → Full lent table)
     → (r ≡ readAnswer (got (contentsOf month days nonzone t) [])) × ((table : Table) → wordsOf filledIn table ≡ atFront (wordsOf t table) (wordsOf lent table))
 write-then-read = answers.write-then-read

@@ -114,17 +114,21 @@ allRows t = rowsOf Zones t ∷ rowsOf Owners t ∷ rowsOf Units t ∷ rowsOf Acc
 abbrev pub contentsOf : ℕ → ℕ → ℕ → Tables → Contents
 contentsOf month days nonzone t = record { head = month ∷ days ∷ nonzone ∷ []; tables = allRows t }
 
--- "Writing refuses with COUNT (the first bad table), then ROOM (table 0)"
-unfoldable pub writeRefusal : Contents → Tables → ℕ → Answer
-writeRefusal c t room =
-    inTurn (λ table. counted table (length (wordsOf t table))) then roomFor answers.head (length (fileText monthForm c)) room
+abbrev pub monthText : ℕ → ℕ → ℕ → Tables → List ℕ
+monthText month days nonzone t = fileText monthForm (contentsOf month days nonzone t)
 
--- what is written, of which it "answers the length, 0 where refused": the text where it is accepted, else nothing
-unfoldable pub textWritten : Contents → Tables → ℕ → List ℕ
-textWritten c t room = cond (eqb (writeRefusal c t room .number) 0) (fileText monthForm c) []
+module _ (month days nonzone : ℕ) (t : Tables) where
+  -- "Writing refuses with COUNT (the first bad table), then ROOM (table 0)"
+  unfoldable pub writeRefusal : ℕ → Answer
+  writeRefusal room =
+      inTurn (λ table. counted table (length (wordsOf t table))) then roomFor answers.head (length (monthText month days nonzone t)) room
 
--- the contract of `write`: t are the lent tables, c the head and their rows
-pub record Writes (c : Contents) (t : Tables) (lent after : List ℕ) (r : Written) : Type 0 where
-  pub answers : r .answer ≡ writeRefusal c t (length lent)
-  pub length-is : r .length ≡ length (textWritten c t (length lent))
-  pub stores : after ≡ stored lent 0 (textWritten c t (length lent))
+  -- what is written, of which it "answers the length, 0 where refused": the text where it is accepted, else nothing
+  unfoldable pub textWritten : ℕ → List ℕ
+  textWritten room = cond (eqb (writeRefusal room .number) 0) (monthText month days nonzone t) []
+
+  -- the contract of `write`: the month is written to the front of the lent bytes, or nothing is
+  pub record Writes (lent after : List ℕ) (r : Written) : Type 0 where
+    pub answers : r .answer ≡ writeRefusal (length lent)
+    pub length-is : r .length ≡ length (textWritten (length lent))
+    pub stores : after ≡ stored lent 0 (textWritten (length lent))

@@ -10,9 +10,7 @@ use Rattle.tables.specs.declared.Table.{Table}
 use Rattle.tables.specs.Shape.{number, width, limit, Tables, wordsOf}
 use Rattle.tables.specs.Good.{Counted}
 use Rattle.tables.specs.Refused.{refusal}
-use Rattle.monthfile.specs.Form.{monthForm}
-use Rattle.monthfile.specs.Reading.{Contents}
-use Rattle.monthfile.specs.Writing.{fileText}
+use Rattle.monthfile.specs.Calls.{monthText}
 
 -- "tables lent at full size"
 abbrev pub Full : Tables → Table → Type 0
@@ -26,9 +24,9 @@ module _ (text : List ℕ) (lent : Tables) (a : Answer) where
     by-text : (offset : ℕ) → a ≡ refusal TEXT head offset → offset ≤ length text → ((table : Table) → Full lent table) → ReadRefused
     by-count : (table : Table) → a ≡ refusal COUNT (number table) (limit table) → ((every : Table) → Full lent every) → ReadRefused
 
-module _ (c : Contents) (t : Tables) (room : ℕ) (a : Answer) where
+module _ (month days nonzone : ℕ) (t : Tables) (room : ℕ) (a : Answer) where
   -- "Writing refuses with COUNT (the first bad table), then ROOM (table 0)"
   pub data WriteRefused : Type 0 where
     by-bad-table : (table : Table) → a ≡ refusal COUNT (number table) 0 → ((earlier : Table) → number earlier < number table → Counted t earlier)
         → ¬ Counted t table → WriteRefused
-    by-short-room : a ≡ refusal ROOM head 0 → ((table : Table) → Counted t table) → room < length (fileText monthForm c) → WriteRefused
+    by-short-room : a ≡ refusal ROOM head 0 → ((table : Table) → Counted t table) → room < length (monthText month days nonzone t) → WriteRefused
