@@ -54,7 +54,7 @@ words-filled lent ts Loads = refl
 words-filled lent ts Reservations = refl
 
 -- a table of contents within the limits
-table-fits : (ts : List Rows) → AllFit (monthForm .kinds) ts → (table : Table) → Fits (kindOf table) (nth ts (placeOf table))
+pub table-fits : (ts : List Rows) → AllFit (monthForm .kinds) ts → (table : Table) → Fits (kindOf table) (nth ts (placeOf table))
 table-fits (a ∷ b ∷ c ∷ d ∷ e ∷ f ∷ []) h Zones = h .0
 table-fits (a ∷ b ∷ c ∷ d ∷ e ∷ f ∷ []) h Owners = h .1 .0
 table-fits (a ∷ b ∷ c ∷ d ∷ e ∷ f ∷ []) h Units = h .1 .1 .0
@@ -98,6 +98,14 @@ module _ (text : List ℕ) (lent : Tables) where
   outcome-read : readRoom lent ≡ accepted → readOutcome text lent ≡ reading monthForm text
   unfolding readOutcome
   outcome-read e = rw (eq-eqb (readRoom lent .number) 0 (ap (λ (a : Answer). a .number) e))
+
+  -- tables of full size have the text read
+  pub outcome-full : ((table : Table) → Full lent table) → readOutcome text lent ≡ reading monthForm text
+  outcome-full full = outcome-read (room-passed rooms)
+    where
+      room-passed : RoomLooked → readRoom lent ≡ accepted
+      room-passed (passed q g) = q
+      room-passed (stopped d why) = absurd (why .3 (full (why .0)))
 
   -- an outcome that is refused says why, one that is not has lent tables of full size and the text read
   abbrev Way : Outcome Contents → Type 0
@@ -161,11 +169,7 @@ module _ (text : List ℕ) (lent : Tables) where
     -- the text of contents within the limits, read into tables of full size, is accepted with these contents
     pub good-read : ((table : Table) → Full lent table) → (c : Contents) → Within monthForm c → text ≡ fileText monthForm c → r ≡ readAnswer (got c [])
     good-read full c within e =
-        reads .answers ∙ ap readAnswer (outcome-read (room-passed rooms) ∙ ap (reading monthForm) e ∙ written-then-read c within)
-      where
-        room-passed : RoomLooked → readRoom lent ≡ accepted
-        room-passed (passed q g) = q
-        room-passed (stopped d why) = absurd (why .3 (full (why .0)))
+        reads .answers ∙ ap readAnswer (outcome-full full ∙ ap (reading monthForm) e ∙ written-then-read c within)
 
 -- the looks at COUNT and ROOM, and the text that is written
 module _ (month days nonzone : ℕ) (t : Tables) (lent : List ℕ) where

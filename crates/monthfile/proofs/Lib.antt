@@ -9,5 +9,6 @@ pub mod Pieces
 pub mod Contents
 pub mod Refusals
 pub mod Answers
+pub mod Fronts
 pub mod Promises
 pub mod Unique

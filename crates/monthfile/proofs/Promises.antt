@@ -17,10 +17,11 @@ use Rattle.monthfile.specs.declared.Written.{Written}
 use Rattle.monthfile.specs.Form.{monthForm}
 use Rattle.monthfile.specs.Reading.{Contents, got, refused, reading}
 use Rattle.monthfile.specs.Writing.{fileText, Within}
-use Rattle.monthfile.specs.Calls.{nth, placeOf, readAnswer, atFront, Reads, contentsOf, monthText, Writes}
+use Rattle.monthfile.specs.Calls.{nth, placeOf, readAnswer, atFront, Reads, contentsOf, monthText, rowsRead, Writes}
 use Rattle.monthfile.specs.Refused.{Full, ReadRefused, WriteRefused}
 use Rattle.monthfile.proofs.Contents as contents
 use Rattle.monthfile.proofs.Answers as answers
+use Rattle.monthfile.proofs.Fronts as fronts
 
 -- tables that are written and read again are the same tables, for every shape within the limits
 pub written-then-read : (c : Contents) → Within monthForm c → reading monthForm (fileText monthForm c) ≡ got c []
@@ -78,3 +79,10 @@ pub write-then-read : (month days nonzone : ℕ) (t : Tables) → Below (month �
     → (lent filledIn : Tables) (r : Reading) → Reads (take (w .length) after) lent filledIn r → ((table : Table) → Full lent table)
     → (r ≡ readAnswer (got (contentsOf month days nonzone t) [])) × ((table : Table) → wordsOf filledIn table ≡ atFront (wordsOf t table) (wordsOf lent table))
 write-then-read = answers.write-then-read
+
+-- a month file that is read and written again is the same file: the head and the rows that `read` left, `write` accepts in room for the
+-- text, and has the text at the front and behind it what was lent
+pub read-then-write : (text : List ℕ) (lent after : Tables) (r : Reading) → Reads text lent after r → r .answer .number ≡ 0
+    → (out written : List ℕ) (w : Written) → Writes (r .month) (r .days) (r .nonzone) (rowsRead r after) out written w → length text ≤ length out
+    → (w ≡ record { answer = accepted; length = length text }) × (written ≡ atFront text out)
+read-then-write text lent after r reads z = fronts.written-again text r after (fronts.text-read text lent after r reads z)

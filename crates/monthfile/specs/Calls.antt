@@ -5,14 +5,14 @@ use mathlib.Core.Bool.{cond}
 use mathlib.Core.List.{List, [], _∷_, _++_}
 use Prim.Native.Nat.{ℕ, _*_, _/_}
 use lib.Dec.{eqb}
-use lib.ListN.{length, getD, drop}
+use lib.ListN.{length, getD, take, drop}
 use Rattle.lists.specs.Sums.{at}
 use Rattle.answer.specs.declared.Answer.{Answer}
 use Rattle.answer.specs.Numbers as answers
 use Rattle.answer.specs.Turns.{accepted, _then_}
 use Rattle.tables.specs.declared.Table.{Table}
 use Rattle.tables.specs.declared.Table.the-variants.{Zones, Owners, Units, Accounts, Loads, Reservations}
-use Rattle.tables.specs.Shape.{number, width, limit, Tables, wordsOf}
+use Rattle.tables.specs.Shape.{number, width, limit, Tables, tablesOf, wordsOf}
 use Rattle.tables.specs.Judgement.{inTurn, counted, roomFor}
 use Rattle.text.specs.Places.{stored}
 use Rattle.monthfile.specs.declared.Reading.{Reading}
@@ -102,6 +102,24 @@ atFront entries lent = entries ++ drop (length entries) lent
 pub record Reads (text : List ℕ) (lent after : Tables) (r : Reading) : Type 0 where
   pub answers : r ≡ readAnswer (readOutcome text lent)
   pub stores : after ≡ filled lent (tablesIn (readOutcome text lent))
+
+-- how many rows of a table were read
+abbrev pub countIn : Reading → Table → ℕ
+countIn held Zones = held .zones
+countIn held Owners = held .owners
+countIn held Units = held .units
+countIn held Accounts = held .accounts
+countIn held Loads = held .loads
+countIn held Reservations = held .reservations
+
+-- the words of those rows, at the front of a lent table
+abbrev pub front : Reading → Tables → Table → List ℕ
+front held t table = take (countIn held table * width table) (wordsOf t table)
+
+-- .. of every table: what was read
+abbrev pub rowsRead : Reading → Tables → Tables
+rowsRead held t =
+    tablesOf (front held t Zones) (front held t Owners) (front held t Units) (front held t Accounts) (front held t Loads) (front held t Reservations)
 
 -- a table's whole rows
 abbrev pub rowsOf : Table → Tables → Rows
