@@ -35,7 +35,7 @@ use Rattle.monthfile.proofs.Forms.{FileBack, file-back}
 use Rattle.monthfile.proofs.Contents.{written-then-read}
 use Rattle.monthfile.proofs.Rooms.{nothing-filled}
 use Rattle.monthfile.proofs.Pieces.{none-written, all-written}
-use Rattle.monthfile.proofs.Refusals.{Stops, Unread, AtText, OverLimit, reading-stops, table-over}
+use Rattle.monthfile.proofs.Refusals.{AtMisfit, AtLimit, reading-refused, table-over}
 
 -- entries stored at the front of a lent list
 stored-front : (lent entries : List ℕ) → length entries ≤ length lent → stored lent 0 entries ≡ atFront entries lent
@@ -112,17 +112,19 @@ module _ (text : List ℕ) (lent : Tables) where
   Way (refused a) = ReadRefused text lent a
   Way (got c rest) = (reading monthForm text ≡ got c rest) × ((table : Table) → Full lent table)
 
-  way-read : ((table : Table) → Full lent table) → (o : Outcome Contents) → reading monthForm text ≡ o → Stops (Unread monthForm text) o → Way o
-  way-read full (got c rest) e stops = (e, full)
-  way-read full (refused a) e stops =
+  way-read : ((table : Table) → Full lent table) → (o : Outcome Contents) → reading monthForm text ≡ o → Way o
+  way-read full (got c rest) e = (e, full)
+  way-read full (refused a) e =
       ⊎-elim
-      (λ (at : AtText (length text) a). by-text (at .0) (at .1) (at .2) full)
-      (λ (over : OverLimit (monthForm .kinds) a). by-count (table-over a over .0) (table-over a over .1) full)
-      stops
+      (λ (at : AtMisfit monthForm text a). by-text (at .front) (at .rest) (at .its) full (at .stands) (at .why))
+      (λ (over : AtLimit monthForm text a).
+      let one = table-over text a over in
+      by-count (one .0) (one .1) full (one .2))
+      (reading-refused monthForm text a e)
 
   way-of : RoomLooked → Way (readOutcome text lent)
   way-of (passed e full) =
-      subst Way (sym (outcome-read e)) (way-read full (reading monthForm text) refl (reading-stops monthForm text))
+      subst Way (sym (outcome-read e)) (way-read full (reading monthForm text) refl)
   way-of (stopped d why) = subst Way (sym (outcome-short d)) (by-room (why .0) (why .1) (why .2) (why .3))
 
   way : Way (readOutcome text lent)
@@ -130,8 +132,8 @@ module _ (text : List ℕ) (lent : Tables) where
 
   refused-number : (a : Answer) → ReadRefused text lent a → a .number ≢ 0
   refused-number a (by-room table e before short) z = let n : ROOM ≡ 0 = ap (λ (k : Answer). k .number) (sym e) ∙ z in omega arith
-  refused-number a (by-text offset e inside full) z = let n : TEXT ≡ 0 = ap (λ (k : Answer). k .number) (sym e) ∙ z in omega arith
-  refused-number a (by-count table e full) z = let n : COUNT ≡ 0 = ap (λ (k : Answer). k .number) (sym e) ∙ z in omega arith
+  refused-number a (by-text front rest e full stands why) z = let n : TEXT ≡ 0 = ap (λ (k : Answer). k .number) (sym e) ∙ z in omega arith
+  refused-number a (by-count table e full why) z = let n : COUNT ≡ 0 = ap (λ (k : Answer). k .number) (sym e) ∙ z in omega arith
 
   module _ (after : Tables) (r : Reading) (reads : Reads text lent after r) where
     -- a refused read answers zeros for the head and the rows, and changes no lent word

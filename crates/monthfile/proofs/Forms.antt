@@ -56,7 +56,7 @@ unfolding heads
 heads-stop size key keys s e = rw e
 
 -- a list of one number
-single : (ns : List ℕ) → length ns ≡ 1 → ns ≡ at ns 0 ∷ []
+pub single : (ns : List ℕ) → length ns ≡ 1 → ns ≡ at ns 0 ∷ []
 single [] e = absurd (let z : 0 ≡ 1 = e in omega arith)
 single (n ∷ []) e = refl
 single (n ∷ m ∷ ns) e = absurd (let z : suc (suc (length ns)) ≡ 1 = e in omega arith)
@@ -81,7 +81,7 @@ pub record HeadsBack (keys : List (List ℕ)) (s ns rest : List ℕ) : Type 0 wh
   pub one-each : length ns ≡ length keys
   pub below : Below ns
 
-heads-back-on : (key : List ℕ) (keys : List (List ℕ)) (s ns t ms rest : List ℕ) → line key 1 s ≡ found ns t → HeadsBack keys t ms rest
+pub heads-back-on : (key : List ℕ) (keys : List (List ℕ)) (s ns t ms rest : List ℕ) → line key 1 s ≡ found ns t → HeadsBack keys t ms rest
     → HeadsBack (key ∷ keys) s (ns ++ ms) rest
 unfolding headsText
 heads-back-on key keys s ns t ms rest e b =
@@ -219,12 +219,11 @@ pub record TablesBack (kinds : List Kind) (s : List ℕ) (ts : List Rows) (rest 
   pub written : s ≡ tablesText kinds ts ++ rest
   pub fit : AllFit kinds ts
 
-tables-back-on : (kind : Kind) (kinds : List Kind) (s : List ℕ) (ts : List Rows) (rest : List ℕ) → readOf kind s .count ≤ kind .limit
-    → TablesBack kinds (readOf kind s .rest) ts rest → TablesBack (kind ∷ kinds) s (tableOf (readOf kind s) ∷ ts) rest
+pub tables-back-on : (kind : Kind) (kinds : List Kind) (s : List ℕ) (r : RowsRead) (ts : List Rows) (rest : List ℕ)
+    → RowsBack (kind .key) (kind .width) s r → r .count ≤ kind .limit
+    → TablesBack kinds (r .rest) ts rest → TablesBack (kind ∷ kinds) s (tableOf r ∷ ts) rest
 unfolding tablesText
-tables-back-on kind kinds s ts rest h b =
-    let own : RowsBack (kind .key) (kind .width) s (readOf kind s) = rows-back (kind .key) (kind .width) (suc (kind .limit)) s in
-    let r : RowsRead = readOf kind s in
+tables-back-on kind kinds s r ts rest own h b =
     record {
       written =
           own .written
@@ -243,7 +242,7 @@ tables-back [] s ts rest e =
 tables-back (kind ∷ kinds) s ts rest e =
     let first : FirstKind kind kinds s ts rest = first-kind kind kinds s ts rest e in
     subst (λ k. TablesBack (kind ∷ kinds) s k rest) (first .both)
-    (tables-back-on kind kinds s (first .others) rest (first .few)
+    (tables-back-on kind kinds s (readOf kind s) (first .others) rest (rows-back (kind .key) (kind .width) (suc (kind .limit)) s) (first .few)
     (tables-back kinds (readOf kind s .rest) (first .others) rest (first .behind)))
 
 -- the last line

@@ -2,7 +2,7 @@
 -- Assumes nothing.
 use mathlib.Core.Path.{_≡_, refl, sym, ap, ap₂, _∙_, subst}
 use mathlib.Core.List.{List, [], _∷_, _++_, append-assoc}
-use Prim.Native.Nat.{ℕ, zero, suc, _+_, _-_, _*_, _≤_}
+use Prim.Native.Nat.{ℕ, zero, suc, _+_, _-_, _*_, _≤_, _<_}
 use native.Mathlib.Nat.{suc-mul, zero-mul}
 use native.Mathlib.Omega.{arith}
 use lib.ListN.{length, take, drop, length-append, take-append-drop, length-drop}
@@ -96,6 +96,62 @@ rows-back key width (suc most) s = go (line key width s) refl (rows-back key wid
     go missing e more = subst (RowsBack key width s) (sym (rows-stop key width most s e)) (back-none key width s)
     go (found ns t) e more =
         subst (RowsBack key width s) (sym (rows-on key width most s ns t e)) (back-on key width s ns t (rows key width most t) e (more t))
+
+-- where fewer rows were read than there might be, none stands behind them
+pub rows-ended : (key : List ℕ) (width : ℕ) (most : ℕ) (s : List ℕ) → rows key width (suc most) s .count ≤ most
+    → line key width (rows key width (suc most) s .rest) ≡ missing
+rows-ended key width zero s h = go (line key width s) refl
+  where
+    go : (o : Found (List ℕ)) → line key width s ≡ o → line key width (rows key width 1 s .rest) ≡ missing
+    go missing e = ap (λ (r : RowsRead). line key width (r .rest)) (rows-stop key width 0 s e) ∙ e
+    go (found ns t) e =
+        absurd (let c : rows key width 1 s .count ≡ suc (rows key width 0 t .count) = ap (λ (r : RowsRead). r .count) (rows-on key width 0 s ns t e) in omega arith)
+rows-ended key width (suc most) s h = go (line key width s) refl (rows-ended key width most)
+  where
+    go : (o : Found (List ℕ)) → line key width s ≡ o
+        → ((t : List ℕ) → rows key width (suc most) t .count ≤ most → line key width (rows key width (suc most) t .rest) ≡ missing)
+        → line key width (rows key width (suc (suc most)) s .rest) ≡ missing
+    go missing e more = ap (λ (r : RowsRead). line key width (r .rest)) (rows-stop key width (suc most) s e) ∙ e
+    go (found ns t) e more =
+        let c : rows key width (suc (suc most)) s .count ≡ suc (rows key width (suc most) t .count) =
+        ap (λ (r : RowsRead). r .count) (rows-on key width (suc most) s ns t e) in
+        ap (λ (r : RowsRead). line key width (r .rest)) (rows-on key width (suc most) s ns t e) ∙ more t (omega arith)
+
+-- where more rows were read than so many, so many stand there and a row behind them
+pub record RowMore (key : List ℕ) (width most : ℕ) (s : List ℕ) : Type 0 where
+  pub row : List ℕ
+  pub more : List ℕ
+  pub so-many : rows key width most s .count ≡ most
+  pub behind : line key width (rows key width most s .rest) ≡ found row more
+
+pub rows-over : (key : List ℕ) (width : ℕ) (most : ℕ) (s : List ℕ) → most < rows key width (suc most) s .count → RowMore key width most s
+rows-over key width zero s h = go (line key width s) refl
+  where
+    go : (o : Found (List ℕ)) → line key width s ≡ o → RowMore key width 0 s
+    go missing e = absurd (let c : rows key width 1 s .count ≡ 0 = ap (λ (r : RowsRead). r .count) (rows-stop key width 0 s e) in omega arith)
+    go (found ns t) e =
+        record {
+          row = ns;
+          more = t;
+          so-many = ap (λ (r : RowsRead). r .count) (rows-none key width s);
+          behind = ap (λ (r : RowsRead). line key width (r .rest)) (rows-none key width s) ∙ e;
+        }
+rows-over key width (suc most) s h = go (line key width s) refl (rows-over key width most)
+  where
+    go : (o : Found (List ℕ)) → line key width s ≡ o → ((t : List ℕ) → most < rows key width (suc most) t .count → RowMore key width most t)
+        → RowMore key width (suc most) s
+    go missing e more =
+        absurd (let c : rows key width (suc (suc most)) s .count ≡ 0 = ap (λ (r : RowsRead). r .count) (rows-stop key width (suc most) s e) in omega arith)
+    go (found ns t) e more =
+        let c : rows key width (suc (suc most)) s .count ≡ suc (rows key width (suc most) t .count) =
+        ap (λ (r : RowsRead). r .count) (rows-on key width (suc most) s ns t e) in
+        let later : RowMore key width most t = more t (omega arith) in
+        record {
+          row = later .row;
+          more = later .more;
+          so-many = ap (λ (r : RowsRead). r .count) (rows-on key width most s ns t e) ∙ ap suc (later .so-many);
+          behind = ap (λ (r : RowsRead). line key width (r .rest)) (rows-on key width most s ns t e) ∙ later .behind;
+        }
 
 -- reading exactly as many rows as there are gives the same
 pub rows-exact : (key : List ℕ) (width : ℕ) (most : ℕ) (s : List ℕ) → rows key width (rows key width most s .count) s ≡ rows key width most s
