@@ -3,12 +3,12 @@
 -- Assumes nothing.
 use mathlib.Core.Path.{_≡_, refl, sym, ap, ap₂, _∙_, subst}
 use mathlib.Core.Logic.{_⊎_, ⊎-elim, _≢_}
-use mathlib.Core.Bool.{Bool, true, false, _&&_}
+use mathlib.Core.Bool.{Bool, true, false, _&&_, and-eq-true-iff}
 use mathlib.Core.List.{List, [], _∷_, _++_, append-assoc, append-nil}
 use Prim.Native.Nat.{ℕ, zero, suc, _+_, _-_, _≤_, _<_}
 use native.Mathlib.Omega.{arith}
 use lib.Dec.{eqb}
-use lib.ListN.{length, take, drop}
+use lib.ListN.{length, getD, take, drop}
 use borrow.Author.Tests.{lt-ltb, le-ltb, eq-eqb, ne-eqb, eqb-true, eqb-false}
 use Rattle.lists.specs.Sums.{at}
 use Rattle.lists.proofs.Ranks.{true-or-false, lt-or-le}
@@ -22,7 +22,8 @@ use Rattle.text.proofs.Below.{below-none, below-cons}
 use Rattle.text.proofs.Lines.{line-text, line-back, Line, line-apart}
 use Rattle.monthfile.specs.Form.{Kind, Form}
 use Rattle.monthfile.specs.Reading.{Outcome, got, refused, onward, unfit, Rows, RowsRead, rows, heads, tables, Contents, rowsIn, closed, ending, reading}
-use Rattle.monthfile.specs.Writing.{rowsText, headsText, tablesText, fileText, AllFit, Within}
+use Rattle.monthfile.specs.Writing.{rowsText, headsText, tablesText, fileText, Fits, AllFit, Within}
+use Rattle.monthfile.specs.Refused.{NoRow}
 use Rattle.monthfile.proofs.RowLaws.{rows-text, rows-back, RowsBack}
 
 -- nothing is both refused and read
@@ -118,6 +119,10 @@ heads-back size (key ∷ keys) s ns rest e = go (line key 1 s) refl (heads-back 
         subst (λ k. HeadsBack (key ∷ keys) s k rest) value
         (heads-back-on key keys s one t (on .value) rest p (subst (HeadsBack keys t (on .value)) left (more t (on .value) (on .rest) (on .first))))
 
+-- the kind at a place
+abbrev pub kindAt : List Kind → ℕ → Kind
+kindAt kinds k = getD kinds k (record { key = []; width = 0; limit = 0; table = 0 })
+
 -- the tables
 pub tables-none : (s : List ℕ) → tables [] s ≡ got [] s
 unfolding tables
@@ -154,44 +159,87 @@ unfoldable pub allDiffer : List Kind → List ℕ → Bool
 allDiffer [] last = true
 allDiffer (kind ∷ kinds) last = differs (kind .key) kinds last && allDiffer kinds last
 
--- no row of a kind stands where rows of another do, or where later kinds and the last line do
-rows-apart : (key : List ℕ) (width : ℕ) (kind : Kind) (n : ℕ) (words rest : List ℕ) → differ key (kind .key) ≡ true → line key width rest ≡ missing
-    → line key width (rowsText (kind .key) (kind .width) n words ++ rest) ≡ missing
+-- a key that differs from those of some kinds and the last differs from the last, from that of each kind, and from those of the first kinds
+differs-last : (key : List ℕ) (kinds : List Kind) (last : List ℕ) → differs key kinds last ≡ true → differ key last ≡ true
+unfolding differs
+differs-last key [] last d = d
+differs-last key (kind ∷ kinds) last d = differs-last key kinds last (both-right (differ key (kind .key)) (differs key kinds last) d)
+
+pub differs-at : (key : List ℕ) (kinds : List Kind) (last : List ℕ) (k : ℕ) → k < length kinds → differs key kinds last ≡ true
+    → differ key (kindAt kinds k .key) ≡ true
+unfolding differs
+differs-at key [] last k h d = absurd (omega arith)
+differs-at key (kind ∷ kinds) last zero h d = both-left (differ key (kind .key)) (differs key kinds last) d
+differs-at key (kind ∷ kinds) last (suc k) h d =
+    differs-at key kinds last k (omega arith) (both-right (differ key (kind .key)) (differs key kinds last) d)
+
+pub differs-take : (key : List ℕ) (kinds : List Kind) (last : List ℕ) (k : ℕ) → differs key kinds last ≡ true → differs key (take k kinds) last ≡ true
+unfolding differs
+differs-take key kinds last zero d = differs-last key kinds last d
+differs-take key [] last (suc k) d = d
+differs-take key (kind ∷ kinds) last (suc k) d =
+    and-eq-true-iff (differ key (kind .key)) (differs key (take k kinds) last) .1 (
+      both-left (differ key (kind .key)) (differs key kinds last) d,
+      differs-take key kinds last k (both-right (differ key (kind .key)) (differs key kinds last) d),
+    )
+
+-- no row of a kind stands where rows of another do, or where rows of later kinds do
+rows-apart : (key : List ℕ) (width : ℕ) (kind : Kind) (n : ℕ) (words rest : List ℕ) → differ key (kind .key) ≡ true
+    → (n ≡ 0 → line key width rest ≡ missing) → line key width (rowsText (kind .key) (kind .width) n words ++ rest) ≡ missing
 unfolding rowsText
-rows-apart key width kind zero words rest d e = e
+rows-apart key width kind zero words rest d e = e refl
 rows-apart key width kind (suc n) words rest d e =
     ap (line key width) (append-assoc (lineText (kind .key) (take (kind .width) words)) (rowsText (kind .key) (kind .width) n (drop (kind .width) words)) rest)
     ∙ line-apart key (kind .key) width (take (kind .width) words) (rowsText (kind .key) (kind .width) n (drop (kind .width) words) ++ rest) d
 
-no-row : (key : List ℕ) (width : ℕ) (kinds : List Kind) (ts : List Rows) (last ns rest : List ℕ) → AllFit kinds ts → differs key kinds last ≡ true
-    → line key width (tablesText kinds ts ++ (lineText last ns ++ rest)) ≡ missing
-unfolding differs tablesText
-no-row key width [] [] last ns rest f d = line-apart key last width ns rest d
-no-row key width [] (t ∷ ts) last ns rest f d = absurd f
-no-row key width (kind ∷ kinds) [] last ns rest f d = absurd f
-no-row key width (kind ∷ kinds) (t ∷ ts) last ns rest f d =
-    ap (line key width) (append-assoc (rowsText (kind .key) (kind .width) (t .count) (t .words)) (tablesText kinds ts) (lineText last ns ++ rest))
-    ∙ rows-apart key width kind (t .count) (t .words) (tablesText kinds ts ++ (lineText last ns ++ rest))
+pub no-row : (key : List ℕ) (width : ℕ) (kinds : List Kind) (ts : List Rows) (last rest : List ℕ) → AllFit kinds ts → differs key kinds last ≡ true
+    → (rowsIn ts ≡ 0 → line key width rest ≡ missing) → line key width (tablesText kinds ts ++ rest) ≡ missing
+unfolding differs tablesText rowsIn
+no-row key width [] [] last rest f d e = e refl
+no-row key width [] (t ∷ ts) last rest f d e = absurd f
+no-row key width (kind ∷ kinds) [] last rest f d e = absurd f
+no-row key width (kind ∷ kinds) (t ∷ ts) last rest f d e =
+    ap (line key width) (append-assoc (rowsText (kind .key) (kind .width) (t .count) (t .words)) (tablesText kinds ts) rest)
+    ∙ rows-apart key width kind (t .count) (t .words) (tablesText kinds ts ++ rest)
     (both-left (differ key (kind .key)) (differs key kinds last) d)
-    (no-row key width kinds ts last ns rest (f .1) (both-right (differ key (kind .key)) (differs key kinds last) d))
+    (λ none.
+    no-row key width kinds ts last rest (f .1) (both-right (differ key (kind .key)) (differs key kinds last) d)
+    (λ others. e (ap₂ _+_ none others)))
 
-pub tables-text : (kinds : List Kind) (ts : List Rows) (last ns rest : List ℕ) → AllFit kinds ts → allDiffer kinds last ≡ true
-    → tables kinds (tablesText kinds ts ++ (lineText last ns ++ rest)) ≡ got ts (lineText last ns ++ rest)
-unfolding allDiffer tablesText
-tables-text [] [] last ns rest f d = tables-none (lineText last ns ++ rest)
-tables-text [] (t ∷ ts) last ns rest f d = absurd f
-tables-text (kind ∷ kinds) [] last ns rest f d = absurd f
-tables-text (kind ∷ kinds) (t ∷ ts) last ns rest f d =
-    let later : List ℕ = tablesText kinds ts ++ (lineText last ns ++ rest) in
+-- where the last line stands, no row does
+pub no-row-end : (kinds : List Kind) (ts : List Rows) (last ns rest : List ℕ) → allDiffer kinds last ≡ true → NoRow kinds ts (lineText last ns ++ rest)
+unfolding allDiffer
+no-row-end [] ts last ns rest d = tt
+no-row-end (kind ∷ kinds) [] last ns rest d = tt
+no-row-end (kind ∷ kinds) (t ∷ ts) last ns rest d = (
+  (λ z.
+  line-apart (kind .key) last (kind .width) ns rest
+  (differs-last (kind .key) kinds last (both-left (differs (kind .key) kinds last) (allDiffer kinds last) d))),
+  no-row-end kinds ts last ns rest (both-right (differs (kind .key) kinds last) (allDiffer kinds last) d),
+)
+
+-- a table in front of others is read, where none of its rows stands behind it
+pub table-text : (kind : Kind) (kinds : List Kind) (t : Rows) (later : List ℕ) → Fits kind t → line (kind .key) (kind .width) later ≡ missing
+    → tables (kind ∷ kinds) (rowsText (kind .key) (kind .width) (t .count) (t .words) ++ later) ≡ onward (tables kinds later) (λ us u. got (t ∷ us) u)
+table-text kind kinds t later f none =
     let whole : List ℕ = rowsText (kind .key) (kind .width) (t .count) (t .words) ++ later in
     let own : readOf kind whole ≡ record { count = t .count; words = t .words; rest = later } =
-    rows-text (kind .key) (kind .width) (t .count) (kind .limit) (t .words) later (f .0 .few) (f .0 .whole) (f .0 .below)
-    (no-row (kind .key) (kind .width) kinds ts last ns rest (f .1) (both-left (differs (kind .key) kinds last) (allDiffer kinds last) d)) in
-    ap (tables (kind ∷ kinds)) (append-assoc (rowsText (kind .key) (kind .width) (t .count) (t .words)) (tablesText kinds ts) (lineText last ns ++ rest))
-    ∙ tables-on kind kinds whole (subst (λ (r : RowsRead). r .count ≤ kind .limit) (sym own) (f .0 .few))
+    rows-text (kind .key) (kind .width) (t .count) (kind .limit) (t .words) later (f .few) (f .whole) (f .below) none in
+    tables-on kind kinds whole (subst (λ (r : RowsRead). r .count ≤ kind .limit) (sym own) (f .few))
     ∙ ap (λ (r : RowsRead). onward (tables kinds (r .rest)) (λ us u. got (tableOf r ∷ us) u)) own
+
+pub tables-text : (kinds : List Kind) (ts : List Rows) (last rest : List ℕ) → AllFit kinds ts → allDiffer kinds last ≡ true → NoRow kinds ts rest
+    → tables kinds (tablesText kinds ts ++ rest) ≡ got ts rest
+unfolding allDiffer tablesText
+tables-text [] [] last rest f d none = tables-none rest
+tables-text [] (t ∷ ts) last rest f d none = absurd f
+tables-text (kind ∷ kinds) [] last rest f d none = absurd f
+tables-text (kind ∷ kinds) (t ∷ ts) last rest f d none =
+    ap (tables (kind ∷ kinds)) (append-assoc (rowsText (kind .key) (kind .width) (t .count) (t .words)) (tablesText kinds ts) rest)
+    ∙ table-text kind kinds t (tablesText kinds ts ++ rest) (f .0)
+    (no-row (kind .key) (kind .width) kinds ts last rest (f .1) (both-left (differs (kind .key) kinds last) (allDiffer kinds last) d) (none .0))
     ∙ ap (λ o. onward o (λ us u. got (t ∷ us) u))
-    (tables-text kinds ts last ns rest (f .1) (both-right (differs (kind .key) kinds last) (allDiffer kinds last) d))
+    (tables-text kinds ts last rest (f .1) (both-right (differs (kind .key) kinds last) (allDiffer kinds last) d) (none .1))
 
 -- the first kind of those that were read, and the others behind it
 pub record FirstKind (kind : Kind) (kinds : List Kind) (s : List ℕ) (ts : List Rows) (rest : List ℕ) : Type 0 where
@@ -314,7 +362,8 @@ file-read form sound c w =
     ∙ ap (λ s. onward (tables (form .kinds) (tablesText (form .kinds) (c .tables) ++ s)) (λ ts t. ending size (form .last) (record { head = c .head; tables = ts }) t))
     (sym (append-nil last))
     ∙ ap (λ o. onward o (λ ts t. ending size (form .last) (record { head = c .head; tables = ts }) t))
-    (tables-text (form .kinds) (c .tables) (form .last) (rowsIn (c .tables) ∷ []) [] (w .fit) (sound .keys))
+    (tables-text (form .kinds) (c .tables) (form .last) (last ++ []) (w .fit) (sound .keys)
+    (no-row-end (form .kinds) (c .tables) (form .last) (rowsIn (c .tables) ∷ []) [] (sound .keys)))
     ∙ ending-on size (form .last) c (last ++ []) (rowsIn (c .tables) ∷ []) [] ended refl
 
 -- a text that is read is the text of what it holds, which is within the limits

@@ -40,6 +40,7 @@ use Rattle.monthfile.proofs.Forms.{
   HeadsBack,
   heads-back-on,
   heads-back,
+  kindAt,
   tables-none,
   readOf,
   tableOf,
@@ -114,10 +115,6 @@ heads-refused size (key ∷ keys) s a e = go (line key 1 s) refl (heads-refused 
         }
     go (found ns t) p more =
         by ns t p more (onward-refused (heads size keys t) (λ ms u. got (ns ++ ms) u) a (sym (heads-on size key keys s ns t p) ∙ e))
-
--- the kind at a place
-abbrev pub kindAt : List Kind → ℕ → Kind
-kindAt kinds k = getD kinds k (record { key = []; width = 0; limit = 0; table = 0 })
 
 -- the tables up to one of them stand in front, that one full, and one more of its rows
 record TableStop (kinds : List Kind) (s : List ℕ) (a : Answer) : Type 0 where
