@@ -62,8 +62,14 @@ single [] e = absurd (let z : 0 ≡ 1 = e in omega arith)
 single (n ∷ []) e = refl
 single (n ∷ m ∷ ns) e = absurd (let z : suc (suc (length ns)) ≡ 1 = e in omega arith)
 
-one-more : {n m : ℕ} → suc n ≡ suc m → n ≡ m
+pub one-more : {n m : ℕ} → suc n ≡ suc m → n ≡ m
 one-more e = omega arith
+
+-- a first line in front of others is read
+pub head-text : (size : ℕ) (key : List ℕ) (keys : List (List ℕ)) (n : ℕ) (later : List ℕ) → n < bound
+    → heads size (key ∷ keys) (lineText key (n ∷ []) ++ later) ≡ onward (heads size keys later) (λ ms u. got (n ∷ ms) u)
+head-text size key keys n later h =
+    heads-on size key keys (lineText key (n ∷ []) ++ later) (n ∷ []) later (line-text key (n ∷ []) later (below-cons n [] h below-none))
 
 pub heads-text : (size : ℕ) (keys : List (List ℕ)) (ns rest : List ℕ) → length ns ≡ length keys → Below ns
     → heads size keys (headsText keys ns ++ rest) ≡ got ns rest
@@ -73,8 +79,7 @@ heads-text size [] (n ∷ ns) rest e h = absurd (let z : suc (length ns) ≡ 0 =
 heads-text size (key ∷ keys) [] rest e h = absurd (let z : 0 ≡ suc (length keys) = e in omega arith)
 heads-text size (key ∷ keys) (n ∷ ns) rest e h =
     ap (heads size (key ∷ keys)) (append-assoc (lineText key (n ∷ [])) (headsText keys ns) rest)
-    ∙ heads-on size key keys (lineText key (n ∷ []) ++ (headsText keys ns ++ rest)) (n ∷ []) (headsText keys ns ++ rest)
-    (line-text key (n ∷ []) (headsText keys ns ++ rest) (below-cons n [] (h 0) below-none))
+    ∙ head-text size key keys n (headsText keys ns ++ rest) (h 0)
     ∙ ap (λ o. onward o (λ ms u. got (n ∷ ms) u)) (heads-text size keys ns rest (one-more e) (λ i. h (suc i)))
 
 pub record HeadsBack (keys : List (List ℕ)) (s ns rest : List ℕ) : Type 0 where
@@ -346,25 +351,45 @@ pub record Sound (form : Form) : Type 0 where
   pub keys : allDiffer (form .kinds) (form .last) ≡ true
   pub size : mostRows (form .kinds) < bound
 
+-- the number of all rows is one
+pub rows-small : (form : Form) → Sound form → (c : Contents) → Within form c → rowsIn (c .tables) < bound
+rows-small form sound c w =
+    let few : rowsIn (c .tables) ≤ mostRows (form .kinds) = rows-in-most (form .kinds) (c .tables) (w .fit) in
+    omega (arith, sound .size)
+
+-- first lines in front are read, and what stands behind them
+pub reading-heads : (form : Form) (text ns s : List ℕ) → text ≡ headsText (form .heads) ns ++ s → length ns ≡ length (form .heads) → Below ns
+    → reading form text ≡ onward (tables (form .kinds) s) (λ ts t. ending (length text) (form .last) (record { head = ns; tables = ts }) t)
+unfolding reading
+reading-heads form text ns s e one-each below =
+    ap (λ o. onward o (λ head s. onward (tables (form .kinds) s) (λ ts t. ending (length text) (form .last) (record { head = head; tables = ts }) t)))
+    (ap (heads (length text) (form .heads)) e ∙ heads-text (length text) (form .heads) ns s one-each below)
+
+-- .. and so are tables behind them
+pub reading-tables : (form : Form) → Sound form → (text : List ℕ) (c : Contents) (rest : List ℕ) → Within form c
+    → text ≡ headsText (form .heads) (c .head) ++ (tablesText (form .kinds) (c .tables) ++ rest) → NoRow (form .kinds) (c .tables) rest
+    → reading form text ≡ ending (length text) (form .last) c rest
+reading-tables form sound text c rest w e none =
+    reading-heads form text (c .head) (tablesText (form .kinds) (c .tables) ++ rest) e (w .one-each) (w .small)
+    ∙ ap (λ o. onward o (λ ts t. ending (length text) (form .last) (record { head = c .head; tables = ts }) t))
+    (tables-text (form .kinds) (c .tables) (form .last) rest (w .fit) (sound .keys) none)
+
+-- .. and the last line
+pub reading-last : (form : Form) → Sound form → (text : List ℕ) (c : Contents) (rest : List ℕ) → Within form c → text ≡ fileText form c ++ rest
+    → reading form text ≡ closed (length text) c rest
+unfolding fileText
+reading-last form sound text c rest w e =
+    let last : List ℕ = lineText (form .last) (rowsIn (c .tables) ∷ []) in
+    reading-tables form sound text c (last ++ rest) w
+    (e ∙ append-assoc (headsText (form .heads) (c .head)) (tablesText (form .kinds) (c .tables) ++ last) rest
+    ∙ ap (λ u. headsText (form .heads) (c .head) ++ u) (append-assoc (tablesText (form .kinds) (c .tables)) last rest))
+    (no-row-end (form .kinds) (c .tables) (form .last) (rowsIn (c .tables) ∷ []) rest (sound .keys))
+    ∙ ending-on (length text) (form .last) c (last ++ rest) (rowsIn (c .tables) ∷ []) rest
+    (line-text (form .last) (rowsIn (c .tables) ∷ []) rest (below-cons (rowsIn (c .tables)) [] (rows-small form sound c w) below-none)) refl
+
 -- contents that are written are read again
 pub file-read : (form : Form) → Sound form → (c : Contents) → Within form c → reading form (fileText form c) ≡ got c []
-unfolding reading fileText
-file-read form sound c w =
-    let last : List ℕ = lineText (form .last) (rowsIn (c .tables) ∷ []) in
-    let tail : List ℕ = tablesText (form .kinds) (c .tables) ++ last in
-    let size : ℕ = length (headsText (form .heads) (c .head) ++ tail) in
-    let few : rowsIn (c .tables) ≤ mostRows (form .kinds) = rows-in-most (form .kinds) (c .tables) (w .fit) in
-    let small : rowsIn (c .tables) < bound = omega (arith, sound .size) in
-    let ended : line (form .last) 1 (last ++ []) ≡ found (rowsIn (c .tables) ∷ []) [] =
-    line-text (form .last) (rowsIn (c .tables) ∷ []) [] (below-cons (rowsIn (c .tables)) [] small below-none) in
-    ap (λ o. onward o (λ head s. onward (tables (form .kinds) s) (λ ts t. ending size (form .last) (record { head = head; tables = ts }) t)))
-    (heads-text size (form .heads) (c .head) tail (w .one-each) (w .small))
-    ∙ ap (λ s. onward (tables (form .kinds) (tablesText (form .kinds) (c .tables) ++ s)) (λ ts t. ending size (form .last) (record { head = c .head; tables = ts }) t))
-    (sym (append-nil last))
-    ∙ ap (λ o. onward o (λ ts t. ending size (form .last) (record { head = c .head; tables = ts }) t))
-    (tables-text (form .kinds) (c .tables) (form .last) (last ++ []) (w .fit) (sound .keys)
-    (no-row-end (form .kinds) (c .tables) (form .last) (rowsIn (c .tables) ∷ []) [] (sound .keys)))
-    ∙ ending-on size (form .last) c (last ++ []) (rowsIn (c .tables) ∷ []) [] ended refl
+file-read form sound c w = reading-last form sound (fileText form c) c [] w (sym (append-nil (fileText form c)))
 
 -- a text that is read is the text of what it holds, which is within the limits
 pub record FileBack (form : Form) (text : List ℕ) (c : Contents) : Type 0 where

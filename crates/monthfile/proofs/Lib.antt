@@ -8,6 +8,7 @@ pub mod Rooms
 pub mod Pieces
 pub mod Contents
 pub mod Refusals
+pub mod Reasons
 pub mod Answers
 pub mod Fronts
 pub mod Promises

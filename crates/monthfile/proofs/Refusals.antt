@@ -221,19 +221,17 @@ pub record AtLimit (form : Form) (text : List ℕ) (a : Answer) : Type 0 where
   pub its : a ≡ refusal COUNT (kindAt (form .kinds) k .table) (kindAt (form .kinds) k .limit)
   pub why : RowTooMany form k (kindAt (form .kinds) k) text
 
+-- the offset of what doesn't fit is the length of what stands in front
+pub unfit-at : (text front rest : List ℕ) → text ≡ front ++ rest → unfit (length text) rest ≡ refusal TEXT head (length front)
+unfit-at text front rest stands =
+    let size : length text ≡ length front + length rest = ap length stands ∙ length-append front rest in
+    let offset : length text - length rest ≡ length front = omega arith in
+    refuse-some TEXT head (length text - length rest) (omega arith) ∙ ap (refusal TEXT head) offset
+
 module _ (form : Form) (text : List ℕ) (a : Answer) where
-  -- the offset of what doesn't fit is the length of what stands in front
   misfit : (front rest : List ℕ) → a ≡ unfit (length text) rest → text ≡ front ++ rest → Misfit form front rest → AtMisfit form text a
   misfit front rest e stands why =
-      let size : length text ≡ length front + length rest = ap length stands ∙ length-append front rest in
-      let offset : length text - length rest ≡ length front = omega arith in
-      record {
-        front = front;
-        rest = rest;
-        its = e ∙ refuse-some TEXT head (length text - length rest) (omega arith) ∙ ap (refusal TEXT head) offset;
-        stands = stands;
-        why = why;
-      }
+      record { front = front; rest = rest; its = e ∙ unfit-at text front rest stands; stands = stands; why = why }
 
   head-misfit : HeadStop (length text) (form .heads) text a → AtMisfit form text a
   head-misfit stop =

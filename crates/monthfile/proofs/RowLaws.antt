@@ -34,6 +34,26 @@ empty : (l : List ℕ) → length l ≡ 0 → l ≡ []
 empty [] e = refl
 empty (a ∷ l) e = absurd (let z : suc (length l) ≡ 0 = e in omega arith)
 
+-- the first of some rows that are written is read, and the others stand behind it
+record RowFirst (key : List ℕ) (width n : ℕ) (words rest : List ℕ) : Type 0 where
+  read : line key width (rowsText key width (suc n) words ++ rest) ≡ found (take width words) (rowsText key width n (drop width words) ++ rest)
+  others : length (drop width words) ≡ n * width
+
+row-first : (key : List ℕ) (width n : ℕ) (words rest : List ℕ) → length words ≡ suc n * width → Below words → RowFirst key width n words rest
+unfolding rowsText
+row-first key width n words rest e h =
+    let size : length words ≡ n * width + width = e ∙ suc-mul n width in
+    let first : List ℕ = take width words in
+    let later : List ℕ = rowsText key width n (drop width words) ++ rest in
+    let wide : length first ≡ width = length-take-le width words (omega arith) in
+    record {
+      read =
+          ap (line key width) (append-assoc (lineText key first) (rowsText key width n (drop width words)) rest)
+          ∙ ap (λ w. line key w (lineText key first ++ later)) (sym wide)
+          ∙ line-text key first later (below-take width words h);
+      others = length-drop width words ∙ (let d : length words - width ≡ n * width = omega arith in d);
+    }
+
 -- rows that are written are read again, where no further row follows
 pub rows-text : (key : List ℕ) (width : ℕ) (n most : ℕ) (words rest : List ℕ) → n ≤ most → length words ≡ n * width → Below words
     → line key width rest ≡ missing → rows key width (suc most) (rowsText key width n words ++ rest) ≡ record { count = n; words = words; rest = rest }
@@ -43,20 +63,30 @@ rows-text key width zero most words rest l e h end =
     ∙ ap (λ ws. record { count = 0; words = ws; rest = rest }) (sym (empty words (e ∙ zero-mul width)))
 rows-text key width (suc n) zero words rest l e h end = absurd (omega arith)
 rows-text key width (suc n) (suc most) words rest l e h end =
-    let size : length words ≡ n * width + width = e ∙ suc-mul n width in
-    let first : List ℕ = take width words in
-    let later : List ℕ = rowsText key width n (drop width words) ++ rest in
-    let wide : length first ≡ width = length-take-le width words (omega arith) in
-    let one : line key width (lineText key first ++ later) ≡ found first later =
-    ap (λ w. line key w (lineText key first ++ later)) (sym wide)
-    ∙ line-text key first later (below-take width words h) in
-    ap (rows key width (suc (suc most))) (append-assoc (lineText key first) (rowsText key width n (drop width words)) rest)
-    ∙ rows-on key width (suc most) (lineText key first ++ later) first later one
-    ∙ ap (withRow first)
-    (rows-text key width n most (drop width words) rest (omega arith)
-    (length-drop width words ∙ (let d : length words - width ≡ n * width = omega arith in d))
-    (below-drop width words h) end)
+    let one : RowFirst key width n words rest = row-first key width n words rest e h in
+    rows-on key width (suc most) (rowsText key width (suc n) words ++ rest) (take width words) (rowsText key width n (drop width words) ++ rest) (one .read)
+    ∙ ap (withRow (take width words))
+    (rows-text key width n most (drop width words) rest (omega arith) (one .others) (below-drop width words h) end)
     ∙ ap (λ ws. record { count = suc n; words = ws; rest = rest }) (take-append-drop width words)
+
+-- where one more follows, more than so many are read
+pub rows-full : (key : List ℕ) (width n : ℕ) (words row more : List ℕ) → length words ≡ n * width → Below words → length row ≡ width → Below row
+    → n < rows key width (suc n) (rowsText key width n words ++ (lineText key row ++ more)) .count
+unfolding rowsText
+rows-full key width zero words row more e h wide below =
+    let one : line key width (lineText key row ++ more) ≡ found row more =
+    ap (λ w. line key w (lineText key row ++ more)) (sym wide) ∙ line-text key row more below in
+    let c : rows key width 1 (lineText key row ++ more) .count ≡ suc (rows key width 0 more .count) =
+    ap (λ (r : RowsRead). r .count) (rows-on key width 0 (lineText key row ++ more) row more one) in
+    omega arith
+rows-full key width (suc n) words row more e h wide below =
+    let rest : List ℕ = lineText key row ++ more in
+    let one : RowFirst key width n words rest = row-first key width n words rest e h in
+    let later : List ℕ = rowsText key width n (drop width words) ++ rest in
+    let c : rows key width (suc (suc n)) (rowsText key width (suc n) words ++ rest) .count ≡ suc (rows key width (suc n) later .count) =
+    ap (λ (r : RowsRead). r .count) (rows-on key width (suc n) (rowsText key width (suc n) words ++ rest) (take width words) later (one .read)) in
+    let more : n < rows key width (suc n) later .count = rows-full key width n (drop width words) row more (one .others) (below-drop width words h) wide below in
+    omega arith
 
 -- rows that were read are whole, of small numbers, and their text stood there
 pub record RowsBack (key : List ℕ) (width : ℕ) (s : List ℕ) (r : RowsRead) : Type 0 where
