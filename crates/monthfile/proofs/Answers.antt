@@ -2,7 +2,7 @@
 -- which refusals there are.
 -- Assumes nothing.
 use mathlib.Core.Path.{_≡_, refl, sym, ap, subst, _∙_}
-use mathlib.Core.Logic.{⊎-elim, _≢_}
+use mathlib.Core.Logic.{⊎-elim, _≢_, _↔_}
 use mathlib.Core.List.{List, [], _∷_, _++_}
 use Prim.Native.Nat.{ℕ, _+_, _*_, _/_, _%_, _≤_, _<_}
 use native.Mathlib.Nat.{div-add-mod, le-trans, le-of-eq, mul-le-mul-right}
@@ -10,6 +10,7 @@ use native.Mathlib.Omega.{arith}
 use lib.ListN.{length, take, drop}
 use lib.Seq.{take-append-seam}
 use borrow.Author.Tests.{eq-eqb, ne-eqb}
+use Rattle.lists.proofs.Ranks.{lt-or-le}
 use Rattle.answer.specs.declared.Answer.{Answer}
 use Rattle.answer.specs.Numbers.{COUNT, ROOM, TEXT, head}
 use Rattle.answer.specs.Turns.{accepted}
@@ -30,12 +31,13 @@ use Rattle.monthfile.specs.Form.{monthForm, kindOf}
 use Rattle.monthfile.specs.Reading.{Outcome, got, refused, Rows, Contents, reading}
 use Rattle.monthfile.specs.Writing.{fileText, Fits, AllFit, Within}
 use Rattle.monthfile.specs.Calls.{contentsOf, monthText, rowsOf, allRows, nth, placeOf, fullSize, readRoom, readOutcome, readAnswer, tablesIn, filled, atFront, Reads, writeRefusal, textWritten, Writes}
-use Rattle.monthfile.specs.Refused.{Full, ReadRefused, by-room, by-text, by-count, WriteRefused, by-bad-table, by-short-room}
+use Rattle.monthfile.specs.Refused.{Full, RowTooMany, ReadRefused, by-room, by-text, by-count, WriteRefused, by-bad-table, by-short-room}
 use Rattle.monthfile.proofs.Forms.{FileBack, file-back}
-use Rattle.monthfile.proofs.Contents.{written-then-read}
+use Rattle.monthfile.proofs.Contents.{month-sound, written-then-read}
 use Rattle.monthfile.proofs.Rooms.{nothing-filled}
 use Rattle.monthfile.proofs.Pieces.{none-written, all-written}
 use Rattle.monthfile.proofs.Refusals.{AtMisfit, AtLimit, reading-refused, table-over}
+use Rattle.monthfile.proofs.Reasons.{misfit-refused, limit-refused}
 
 -- entries stored at the front of a lent list
 stored-front : (lent entries : List ℕ) → length entries ≤ length lent → stored lent 0 entries ≡ atFront entries lent
@@ -72,6 +74,19 @@ table-fits (a ∷ b ∷ c ∷ d ∷ e ∷ f ∷ g ∷ more) h table = absurd (h 
 -- rows within the limits fit in a table of full size
 fits-front : (table : Table) (t : Rows) → Fits (kindOf table) t → {lent : ℕ} → limit table * width table ≤ lent → length (t .words) ≤ lent
 fits-front table t f full = le-trans (le-of-eq (f .whole)) (le-trans (mul-le-mul-right (width table) (f .few)) full)
+
+-- there is one first table that is not so
+one-first : (G : Table → Type 0) (x y : Table) → ((earlier : Table) → number earlier < number x → G earlier) → ¬ G x
+    → ((earlier : Table) → number earlier < number y → G earlier) → ¬ G y → number x ≡ number y
+one-first G x y before bad before′ bad′ =
+    ⊎-elim
+    (λ (l : number x < number y). absurd (bad (before′ x l)))
+    (λ (m : number y ≤ number x).
+    ⊎-elim
+    (λ (l : number y < number x). absurd (bad′ (before y l)))
+    (λ (n : number x ≤ number y). (let e : number x ≡ number y = omega arith in e))
+    (lt-or-le (number y) (number x)))
+    (lt-or-le (number x) (number y))
 
 -- the look at ROOM, and the text behind it
 module _ (text : List ℕ) (lent : Tables) where
@@ -135,6 +150,29 @@ module _ (text : List ℕ) (lent : Tables) where
   refused-number a (by-text front rest e full stands why) z = let n : TEXT ≡ 0 = ap (λ (k : Answer). k .number) (sym e) ∙ z in omega arith
   refused-number a (by-count table e full why) z = let n : COUNT ≡ 0 = ap (λ (k : Answer). k .number) (sym e) ∙ z in omega arith
 
+  -- a text with a row too many
+  full-table : (table : Table) → RowTooMany monthForm (placeOf table) (kindOf table) text
+      → reading monthForm text ≡ refused (refusal COUNT (number table) (limit table))
+  full-table Zones = limit-refused monthForm month-sound text 0 (omega arith)
+  full-table Owners = limit-refused monthForm month-sound text 1 (omega arith)
+  full-table Units = limit-refused monthForm month-sound text 2 (omega arith)
+  full-table Accounts = limit-refused monthForm month-sound text 3 (omega arith)
+  full-table Loads = limit-refused monthForm month-sound text 4 (omega arith)
+  full-table Reservations = limit-refused monthForm month-sound text 5 (omega arith)
+
+  -- whatever reason is so, is answered
+  outcome-why : (a : Answer) → ReadRefused text lent a → readOutcome text lent ≡ refused a
+  outcome-why a (by-room table e before short) = go rooms
+    where
+      go : RoomLooked → readOutcome text lent ≡ refused a
+      go (passed q full) = absurd (short (full table))
+      go (stopped d why) =
+          outcome-short d
+          ∙ ap refused (why .1 ∙ ap (λ n. refusal ROOM n 0) (one-first (Full lent) (why .0) table (why .2) (why .3) before short) ∙ sym e)
+  outcome-why a (by-text front rest e full stands why) =
+      outcome-full full ∙ misfit-refused monthForm month-sound text front rest stands why ∙ ap refused (sym e)
+  outcome-why a (by-count table e full why) = outcome-full full ∙ full-table table why ∙ ap refused (sym e)
+
   module _ (after : Tables) (r : Reading) (reads : Reads text lent after r) where
     -- a refused read answers zeros for the head and the rows, and changes no lent word
     refused-by : (o : Outcome Contents) → Way o → r ≡ readAnswer o → after ≡ filled lent (tablesIn o) → r .answer .number ≢ 0
@@ -146,6 +184,13 @@ module _ (text : List ℕ) (lent : Tables) where
 
     pub read-refused : r .answer .number ≢ 0 → (r ≡ readAnswer (refused (r .answer))) × (after ≡ lent) × ReadRefused text lent (r .answer)
     read-refused d = refused-by (readOutcome text lent) way (reads .answers) (reads .stores) d
+
+    -- a read answers a refusal exactly when its reason is so
+    pub read-refused-exactly : (a : Answer) → ReadRefused text lent a ↔ ((r .answer ≡ a) × (a .number ≢ 0))
+    read-refused-exactly a = (
+      (λ why. (ap (λ (h : Reading). h .answer) (reads .answers ∙ ap readAnswer (outcome-why a why)), refused-number a why)),
+      (λ w. subst (ReadRefused text lent) (w .0) (read-refused (λ z. w .1 (ap (λ (k : Answer). k .number) (sym (w .0)) ∙ z)) .2)),
+    )
 
     -- an accepted read has each table's rows at its front, and behind them what was lent
     accepted-by : (o : Outcome Contents) → Way o → r ≡ readAnswer o → after ≡ filled lent (tablesIn o) → r .answer .number ≡ 0
@@ -208,6 +253,35 @@ module _ (month days nonzone : ℕ) (t : Tables) (lent : List ℕ) where
     -- a refused write answers 0 and changes no lent byte
     pub write-refused : r .answer .number ≢ 0 → (r .length ≡ 0) × (after ≡ lent) × WriteRefused month days nonzone t (length lent) (r .answer)
     write-refused d = refused-write looks d
+
+    -- whatever reason is so, is answered
+    write-why : (a : Answer) → WriteRefused month days nonzone t (length lent) a → (r .answer ≡ a) × (a .number ≢ 0)
+    write-why a why = let e : r .answer ≡ a = writes .answers ∙ go looks why in (e, λ z. number-of why z)
+      where
+        same : (b : Answer) → WriteRefused month days nonzone t (length lent) b → WriteRefused month days nonzone t (length lent) a → b ≡ a
+        same b (by-bad-table x e before bad) (by-bad-table y q before′ bad′) =
+            e ∙ ap (λ n. refusal COUNT n 0) (one-first (Counted t) x y before bad before′ bad′) ∙ sym q
+        same b (by-bad-table x e before bad) (by-short-room q all short) = absurd (bad (all x))
+        same b (by-short-room e all short) (by-bad-table y q before bad) = absurd (bad (all y))
+        same b (by-short-room e all short) (by-short-room q all′ short′) = e ∙ sym q
+
+        go : WriteLooked → WriteRefused month days nonzone t (length lent) a → writeRefusal month days nonzone t (length lent) ≡ a
+        go (passed e g) (by-bad-table x q before bad) = absurd (bad (g .0 x))
+        go (passed e g) (by-short-room q all short) = absurd (let fits = g .1 in omega arith)
+        go (stopped n w) so = same (writeRefusal month days nonzone t (length lent)) w so
+
+        number-of : WriteRefused month days nonzone t (length lent) a → a .number ≢ 0
+        number-of (by-bad-table x e before bad) z = let n : COUNT ≡ 0 = ap (λ (k : Answer). k .number) (sym e) ∙ z in omega arith
+        number-of (by-short-room e all short) z = let n : ROOM ≡ 0 = ap (λ (k : Answer). k .number) (sym e) ∙ z in omega arith
+
+    -- a write answers a refusal exactly when its reason is so
+    pub write-refused-exactly : (a : Answer) → WriteRefused month days nonzone t (length lent) a ↔ ((r .answer ≡ a) × (a .number ≢ 0))
+    write-refused-exactly a = (
+      write-why a,
+      (λ w.
+      subst (WriteRefused month days nonzone t (length lent)) (w .0)
+      (write-refused (λ z. w .1 (ap (λ (k : Answer). k .number) (sym (w .0)) ∙ z)) .2)),
+    )
 
     written-by : WriteLooked
         → r .answer .number ≡ 0

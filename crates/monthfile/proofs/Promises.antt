@@ -1,12 +1,13 @@
 -- What is promised of every month file: what is written and read again is the same, and so is what is read and written again. Then what
 -- is promised of the calls `read` and `write`, whose contracts are `Reads` and `Writes`. No range is judged: numbers are below 2^64 and
--- nothing more is asked of them. Nothing else stands here; the proofs are in `Contents` and `Answers`.
+-- nothing more is asked of them. Nothing else stands here; the proofs are in `Contents`, `Answers` and `Fronts`.
 -- Assumes nothing.
 use mathlib.Core.Path.{_≡_}
 use mathlib.Core.Logic.{_↔_, _≢_}
 use mathlib.Core.List.{List, [], _∷_}
 use Prim.Native.Nat.{ℕ, _≤_}
 use lib.ListN.{length, take}
+use Rattle.answer.specs.declared.Answer.{Answer}
 use Rattle.answer.specs.Turns.{accepted}
 use Rattle.tables.specs.declared.Table.{Table}
 use Rattle.tables.specs.Shape.{Tables, wordsOf}
@@ -50,6 +51,10 @@ module _ (text : List ℕ) (lent after : Tables) (r : Reading) (reads : Reads te
   pub refused-read : r .answer .number ≢ 0 → (r ≡ readAnswer (refused (r .answer))) × (after ≡ lent) × ReadRefused text lent (r .answer)
   refused-read = answers.read-refused text lent after r reads
 
+  -- a read answers a refusal exactly when its reason is so: nothing else is refused, and no reason is passed over
+  pub refused-read-exactly : (a : Answer) → ReadRefused text lent a ↔ ((r .answer ≡ a) × (a .number ≢ 0))
+  refused-read-exactly = answers.read-refused-exactly text lent after r reads
+
   -- an accepted read answers what the text holds, and has each table's rows at its front and behind them what was lent
   pub accepted-read : r .answer .number ≡ 0
       → (c : Contents) × (reading monthForm text ≡ got c []) × (r ≡ readAnswer (got c []))
@@ -64,6 +69,10 @@ module _ (month days nonzone : ℕ) (t : Tables) (lent after : List ℕ) (r : Wr
   -- a refused write answers 0 as the length, changes no lent byte, and says why: COUNT or ROOM
   pub refused-write : r .answer .number ≢ 0 → (r .length ≡ 0) × (after ≡ lent) × WriteRefused month days nonzone t (length lent) (r .answer)
   refused-write = answers.write-refused month days nonzone t lent after r writes
+
+  -- a write answers a refusal exactly when its reason is so
+  pub refused-write-exactly : (a : Answer) → WriteRefused month days nonzone t (length lent) a ↔ ((r .answer ≡ a) × (a .number ≢ 0))
+  refused-write-exactly = answers.write-refused-exactly month days nonzone t lent after r writes
 
   -- an accepted write answers the text's length, and has the text at the front and behind it what was lent
   pub accepted-write : r .answer .number ≡ 0 → (r .length ≡ length (monthText month days nonzone t)) × (after ≡ atFront (monthText month days nonzone t) lent)
