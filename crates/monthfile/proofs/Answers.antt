@@ -31,12 +31,12 @@ use Rattle.monthfile.specs.Form.{monthForm, kindOf}
 use Rattle.monthfile.specs.Reading.{Outcome, got, refused, Rows, Contents, reading}
 use Rattle.monthfile.specs.Writing.{fileText, Fits, AllFit, Within}
 use Rattle.monthfile.specs.Calls.{contentsOf, monthText, rowsOf, allRows, nth, placeOf, fullSize, readRoom, readOutcome, readAnswer, tablesIn, filled, atFront, Reads, writeRefusal, textWritten, Writes}
-use Rattle.monthfile.specs.Refused.{Full, RowTooMany, ReadRefused, by-room, by-text, by-count, WriteRefused, by-bad-table, by-short-room}
+use Rattle.monthfile.specs.Refused.{Full, AtMisfit, RowTooMany, ReadRefused, by-room, by-text, by-count, WriteRefused, by-bad-table, by-short-room}
 use Rattle.monthfile.proofs.Forms.{FileBack, file-back}
 use Rattle.monthfile.proofs.Contents.{month-sound, written-then-read}
 use Rattle.monthfile.proofs.Rooms.{nothing-filled}
 use Rattle.monthfile.proofs.Pieces.{none-written, all-written}
-use Rattle.monthfile.proofs.Refusals.{AtMisfit, AtLimit, reading-refused, table-over}
+use Rattle.monthfile.proofs.Refusals.{AtLimit, reading-refused, table-over}
 use Rattle.monthfile.proofs.Reasons.{misfit-refused, limit-refused}
 
 -- entries stored at the front of a lent list
@@ -131,10 +131,10 @@ module _ (text : List ℕ) (lent : Tables) where
   way-read full (got c rest) e = (e, full)
   way-read full (refused a) e =
       ⊎-elim
-      (λ (at : AtMisfit monthForm text a). by-text (at .front) (at .rest) (at .its) full (at .stands) (at .why))
+      (λ (at : AtMisfit monthForm text a). by-text at full)
       (λ (over : AtLimit monthForm text a).
       let one = table-over text a over in
-      by-count (one .0) (one .1) full (one .2))
+      by-count (one .0) (one .1) (one .2) full)
       (reading-refused monthForm text a e)
 
   way-of : RoomLooked → Way (readOutcome text lent)
@@ -147,8 +147,8 @@ module _ (text : List ℕ) (lent : Tables) where
 
   refused-number : (a : Answer) → ReadRefused text lent a → a .number ≢ 0
   refused-number a (by-room table e before short) z = let n : ROOM ≡ 0 = ap (λ (k : Answer). k .number) (sym e) ∙ z in omega arith
-  refused-number a (by-text front rest e full stands why) z = let n : TEXT ≡ 0 = ap (λ (k : Answer). k .number) (sym e) ∙ z in omega arith
-  refused-number a (by-count table e full why) z = let n : COUNT ≡ 0 = ap (λ (k : Answer). k .number) (sym e) ∙ z in omega arith
+  refused-number a (by-text at full) z = let n : TEXT ≡ 0 = ap (λ (k : Answer). k .number) (sym (at .its)) ∙ z in omega arith
+  refused-number a (by-count table e why full) z = let n : COUNT ≡ 0 = ap (λ (k : Answer). k .number) (sym e) ∙ z in omega arith
 
   -- a text with a row too many
   full-table : (table : Table) → RowTooMany monthForm (placeOf table) (kindOf table) text
@@ -169,9 +169,8 @@ module _ (text : List ℕ) (lent : Tables) where
       go (stopped d why) =
           outcome-short d
           ∙ ap refused (why .1 ∙ ap (λ n. refusal ROOM n 0) (one-first (Full lent) (why .0) table (why .2) (why .3) before short) ∙ sym e)
-  outcome-why a (by-text front rest e full stands why) =
-      outcome-full full ∙ misfit-refused monthForm month-sound text front rest stands why ∙ ap refused (sym e)
-  outcome-why a (by-count table e full why) = outcome-full full ∙ full-table table why ∙ ap refused (sym e)
+  outcome-why a (by-text at full) = outcome-full full ∙ misfit-refused monthForm month-sound text a at
+  outcome-why a (by-count table e why full) = outcome-full full ∙ full-table table why ∙ ap refused (sym e)
 
   module _ (after : Tables) (r : Reading) (reads : Reads text lent after r) where
     -- a refused read answers zeros for the head and the rows, and changes no lent word

@@ -1,7 +1,7 @@
 -- What an accepted read leaves at the front of the lent tables is what the text holds; written again, it is the text.
 -- Assumes nothing.
-use mathlib.Core.Path.{_≡_, refl, sym, ap, ap₂, subst, _∙_}
-use mathlib.Core.List.{List, [], _∷_, _++_}
+use mathlib.Core.Path.{_≡_, refl, sym, ap, _∙_}
+use mathlib.Core.List.{List, [], _∷_}
 use Prim.Native.Nat.{ℕ, suc, _+_, _*_, _/_, _%_, _≤_}
 use native.Mathlib.Nat.{le-trans, le-of-eq, mul-div-left, mul-mod-left}
 use native.Mathlib.Omega.{arith}
@@ -35,7 +35,7 @@ use Rattle.monthfile.specs.Calls.{
   monthText,
   Writes,
 }
-use Rattle.monthfile.proofs.Forms.{FileBack, file-back}
+use Rattle.monthfile.proofs.Forms.{file-back}
 use Rattle.monthfile.proofs.Answers.{table-fits, read-accepted, write-accepted, good-write}
 
 -- a table that was read: within its limits, counted, and at the front of the lent words

@@ -1,26 +1,27 @@
 -- A reason for TEXT or COUNT that is so is what a text is refused with: what stands in front is read, and what stands behind it
 -- is not.
 -- Assumes nothing.
-use mathlib.Core.Path.{_≡_, refl, sym, ap, subst, _∙_}
+use mathlib.Core.Path.{_≡_, sym, ap, subst, _∙_}
 use mathlib.Core.Bool.{true}
 use mathlib.Core.List.{List, [], _∷_, _++_, append-assoc, append-nil}
 use Prim.Native.Nat.{ℕ, zero, suc, _+_, _*_, _<_}
 use native.Mathlib.Omega.{arith}
 use lib.ListN.{length, getD, take}
 use Rattle.lists.proofs.Sums.{both-left, both-right}
-use Rattle.answer.specs.Numbers.{COUNT, TEXT, head}
+use Rattle.answer.specs.declared.Answer.{Answer}
+use Rattle.answer.specs.Numbers.{COUNT}
 use Rattle.answer.specs.Turns.{refuse}
 use Rattle.answer.proofs.Turns.{refuse-some}
 use Rattle.tables.specs.Refused.{refusal}
-use Rattle.text.specs.Numbers.{found, missing, Below}
+use Rattle.text.specs.Numbers.{missing, Below}
 use Rattle.text.specs.Lines.{line, lineText}
 use Rattle.text.proofs.Below.{below-none, below-cons}
 use Rattle.text.proofs.Lines.{line-text, line-apart}
 use Rattle.monthfile.specs.Form.{Kind, Form}
-use Rattle.monthfile.specs.Reading.{got, refused, onward, unfit, Rows, heads, tables, Contents, rowsIn, closed, ending, reading}
-use Rattle.monthfile.specs.Writing.{rowsText, headsText, tablesText, fileText, AllFit, Within}
+use Rattle.monthfile.specs.Reading.{got, refused, onward, unfit, Rows, heads, tables, Contents, closed, ending, reading}
+use Rattle.monthfile.specs.Writing.{rowsText, headsText, tablesText, AllFit, Within}
 use Rattle.monthfile.specs.Calls.{nth}
-use Rattle.monthfile.specs.Refused.{beforeEnd, NoRow, Misfit, no-head, no-line, other-number, bytes-behind, RowTooMany}
+use Rattle.monthfile.specs.Refused.{beforeEnd, NoRow, Misfit, no-head, no-line, other-number, bytes-behind, AtMisfit, RowTooMany}
 use Rattle.monthfile.proofs.RowLaws.{rows-full}
 use Rattle.monthfile.proofs.Forms.{
   heads-stop,
@@ -107,8 +108,9 @@ module _ (form : Form) (sound : Sound form) (text : List ℕ) where
       ∙ ap (closed (length text) c) e ∙ ap (λ u. refused (unfit (length text) u)) (sym e)
 
   -- what doesn't fit is TEXT
-  pub misfit-refused : (front rest : List ℕ) → text ≡ front ++ rest → Misfit form front rest → reading form text ≡ refused (refusal TEXT head (length front))
-  misfit-refused front rest stands why = stops front rest stands why ∙ ap refused (unfit-at text front rest stands)
+  pub misfit-refused : (a : Answer) → AtMisfit form text a → reading form text ≡ refused a
+  misfit-refused a at =
+      stops (at .front) (at .rest) (at .stands) (at .why) ∙ ap refused (unfit-at text (at .front) (at .rest) (at .stands) ∙ sym (at .its))
 
   -- a row too many is COUNT
   pub limit-refused : (k : ℕ) → k < length (form .kinds) → RowTooMany form k (kindAt (form .kinds) k) text

@@ -26,10 +26,10 @@ use Rattle.text.specs.Lines.{line, lineText}
 use Rattle.text.proofs.Below.{below-none}
 use Rattle.text.proofs.Lines.{line-back, Line}
 use Rattle.monthfile.specs.Form.{Kind, Form, kindOf, monthForm}
-use Rattle.monthfile.specs.Reading.{Outcome, got, refused, onward, unfit, Rows, RowsRead, rows, heads, tables, Contents, rowsIn, closed, ending, reading}
+use Rattle.monthfile.specs.Reading.{Outcome, got, refused, onward, unfit, Rows, RowsRead, rows, heads, tables, Contents, rowsIn, ending, reading}
 use Rattle.monthfile.specs.Writing.{rowsText, headsText, tablesText, fileText, Within}
 use Rattle.monthfile.specs.Calls.{nth, placeOf}
-use Rattle.monthfile.specs.Refused.{beforeEnd, NoRow, Misfit, no-head, no-line, other-number, bytes-behind, firstKinds, RowTooMany}
+use Rattle.monthfile.specs.Refused.{beforeEnd, NoRow, Misfit, no-head, no-line, other-number, bytes-behind, AtMisfit, RowTooMany}
 use Rattle.monthfile.proofs.RowLaws.{rows-back, rows-ended, RowMore, rows-over}
 use Rattle.monthfile.proofs.Forms.{
   not-both,
@@ -205,14 +205,6 @@ no-row-left (kind ∷ kinds) s ts rest e =
       ∙ rows-ended (kind .key) (kind .width) (kind .limit) s (first .few)),
       no-row-left kinds (readOf kind s .rest) (first .others) rest (first .behind),
     )
-
--- TEXT at what doesn't fit
-pub record AtMisfit (form : Form) (text : List ℕ) (a : Answer) : Type 0 where
-  pub front : List ℕ
-  pub rest : List ℕ
-  pub its : a ≡ refusal TEXT head (length front)
-  pub stands : text ≡ front ++ rest
-  pub why : Misfit form front rest
 
 -- COUNT of a kind with a row too many
 pub record AtLimit (form : Form) (text : List ℕ) (a : Answer) : Type 0 where

@@ -33,24 +33,36 @@ NoRow (kind ∷ kinds) [] rest = Unit {0}
 NoRow (kind ∷ kinds) (t ∷ ts) rest = (rowsIn ts ≡ 0 → line (kind .key) (kind .width) rest ≡ missing) × NoRow kinds ts rest
 
 module _ (form : Form) (front rest : List ℕ) where
-  -- "a month file line that doesn't fit": every line in front fits in its turn, and what stands behind them does not. In turn: the
-  -- next of the first lines is missing; there is neither a row whose turn is to come nor a last line; "An `end` with another number";
-  -- "Nothing follows `end`", but something does
+  -- "a month file line that doesn't fit": every line in front fits in its turn, and what stands behind them does not
   pub data Misfit : Type 0 where
+    -- k of the first lines, with their numbers, and the next is not there
     no-head : (k : ℕ) (ns : List ℕ) → k < length (form .heads) → length ns ≡ k → Below ns
         → front ≡ headsText (take k (form .heads)) ns → line (getD (form .heads) k []) 1 rest ≡ missing → Misfit
+    -- neither a row whose turn is to come nor the last line
     no-line : (c : Contents) → Within form c
         → front ≡ beforeEnd form c → NoRow (form .kinds) (c .tables) rest → line (form .last) 1 rest ≡ missing → Misfit
+    -- "An `end` with another number is TEXT at its line"
     other-number : (c : Contents) (n : ℕ) (more : List ℕ) → Within form c → n < bound
         → front ≡ beforeEnd form c → rest ≡ lineText (form .last) (n ∷ []) ++ more → n ≢ rowsIn (c .tables) → Misfit
+    -- "Nothing follows `end`", but bytes do
     bytes-behind : (c : Contents) (byte : ℕ) (more : List ℕ) → Within form c
         → front ≡ fileText form c → rest ≡ byte ∷ more → Misfit
+
+-- "TEXT has table 0 and, as row, the offset of the line's first byte, of the first byte after `end`, or the text's length where a
+-- line is missing": the length of what fits
+pub record AtMisfit (form : Form) (text : List ℕ) (a : Answer) : Type 0 where
+  pub front : List ℕ
+  pub rest : List ℕ
+  pub its : a ≡ refusal TEXT head (length front)
+  pub stands : text ≡ front ++ rest
+  pub why : Misfit form front rest
 
 -- a form with its first kinds alone
 abbrev pub firstKinds : ℕ → Form → Form
 firstKinds k form = record { heads = form .heads; kinds = take k (form .kinds); last = form .last }
 
--- the kind at place k has one row too many: as many rows as it may have stand in front, and one more line of it behind them
+-- the kind at place k has a row too many: the kinds up to it stand in front, that one with as many rows as it may have, and one more
+-- of its lines, which fits ("TEXT before COUNT")
 pub record RowTooMany (form : Form) (k : ℕ) (kind : Kind) (text : List ℕ) : Type 0 where
   pub front : Contents
   pub row : List ℕ
@@ -62,14 +74,13 @@ pub record RowTooMany (form : Form) (k : ℕ) (kind : Kind) (text : List ℕ) : 
   pub stands : text ≡ beforeEnd (firstKinds (suc k) form) front ++ (lineText (kind .key) row ++ more)
 
 module _ (text : List ℕ) (lent : Tables) (a : Answer) where
-  -- "(ROOM, naming the first short table)", "TEXT has table 0 and, as row, the offset ..", "COUNT (row is the limit)"
+  -- "tables lent at full size (ROOM, naming the first short table), then takes lines in turn, TEXT before COUNT (row is the limit)"
   pub data ReadRefused : Type 0 where
     by-room : (table : Table) → a ≡ refusal ROOM (number table) 0 → ((earlier : Table) → number earlier < number table → Full lent earlier)
         → ¬ Full lent table → ReadRefused
-    by-text : (front rest : List ℕ) → a ≡ refusal TEXT head (length front) → ((table : Table) → Full lent table)
-        → text ≡ front ++ rest → Misfit monthForm front rest → ReadRefused
-    by-count : (table : Table) → a ≡ refusal COUNT (number table) (limit table) → ((every : Table) → Full lent every)
-        → RowTooMany monthForm (placeOf table) (kindOf table) text → ReadRefused
+    by-text : AtMisfit monthForm text a → ((table : Table) → Full lent table) → ReadRefused
+    by-count : (table : Table) → a ≡ refusal COUNT (number table) (limit table) → RowTooMany monthForm (placeOf table) (kindOf table) text
+        → ((every : Table) → Full lent every) → ReadRefused
 
 module _ (month days nonzone : ℕ) (t : Tables) (room : ℕ) (a : Answer) where
   -- "Writing refuses with COUNT (the first bad table), then ROOM (table 0)"
