@@ -278,8 +278,8 @@ module _ (month days nonzone : ℕ) (t : Tables) (lent : List ℕ) where
     write-refused-exactly a = (
       write-why a,
       (λ w.
-      subst (WriteRefused month days nonzone t (length lent)) (w .0)
-      (write-refused (λ z. w .1 (ap (λ (k : Answer). k .number) (sym (w .0)) ∙ z)) .2)),
+          subst (WriteRefused month days nonzone t (length lent)) (w .0)
+          (write-refused (λ z. w .1 (ap (λ (k : Answer). k .number) (sym (w .0)) ∙ z)) .2)),
     )
 
     written-by : WriteLooked

@@ -218,8 +218,8 @@ no-row-end [] ts last ns rest d = tt
 no-row-end (kind ∷ kinds) [] last ns rest d = tt
 no-row-end (kind ∷ kinds) (t ∷ ts) last ns rest d = (
   (λ z.
-  line-apart (kind .key) last (kind .width) ns rest
-  (differs-last (kind .key) kinds last (both-left (differs (kind .key) kinds last) (allDiffer kinds last) d))),
+      line-apart (kind .key) last (kind .width) ns rest
+      (differs-last (kind .key) kinds last (both-left (differs (kind .key) kinds last) (allDiffer kinds last) d))),
   no-row-end kinds ts last ns rest (both-right (differs (kind .key) kinds last) (allDiffer kinds last) d),
 )
 

@@ -201,8 +201,8 @@ no-row-left (kind ∷ kinds) s ts rest e =
     let back : TablesBack kinds (readOf kind s .rest) (first .others) rest = tables-back kinds (readOf kind s .rest) (first .others) rest (first .behind) in
     subst (λ us. NoRow (kind ∷ kinds) us rest) (first .both) (
       (λ z.
-      ap (line (kind .key) (kind .width)) (sym (back .written ∙ ap (λ u. u ++ rest) (no-rows-text kinds (first .others) z)))
-      ∙ rows-ended (kind .key) (kind .width) (kind .limit) s (first .few)),
+          ap (line (kind .key) (kind .width)) (sym (back .written ∙ ap (λ u. u ++ rest) (no-rows-text kinds (first .others) z)))
+          ∙ rows-ended (kind .key) (kind .width) (kind .limit) s (first .few)),
       no-row-left kinds (readOf kind s .rest) (first .others) rest (first .behind),
     )
 
