@@ -24,7 +24,7 @@ use Rattle.monthfile.specs.Form.{Kind, Form}
 use Rattle.monthfile.specs.Reading.{Outcome, got, refused, onward, unfit, Rows, RowsRead, rows, heads, tables, Contents, rowsIn, closed, ending, reading}
 use Rattle.monthfile.specs.Writing.{rowsText, headsText, tablesText, fileText, Fits, AllFit, Within}
 use Rattle.monthfile.specs.Refused.{NoRow}
-use Rattle.monthfile.proofs.RowLaws.{rows-text, rows-back, RowsBack}
+use Rattle.monthfile.proofs.RowLaws.{no-line-there, line-missing, rows-text, rows-back, RowsBack}
 
 -- nothing is both refused and read
 pub not-both : {A : Type 0} {o : Outcome A} {a : A} {s : List ℕ} {r : Answer} → o ≡ refused r → o ≡ got a s → ⊥
@@ -218,8 +218,9 @@ no-row-end [] ts last ns rest d = tt
 no-row-end (kind ∷ kinds) [] last ns rest d = tt
 no-row-end (kind ∷ kinds) (t ∷ ts) last ns rest d = (
   (λ z.
-      line-apart (kind .key) last (kind .width) ns rest
-      (differs-last (kind .key) kinds last (both-left (differs (kind .key) kinds last) (allDiffer kinds last) d))),
+      no-line-there (kind .key) (kind .width) (lineText last ns ++ rest)
+      (line-apart (kind .key) last (kind .width) ns rest
+      (differs-last (kind .key) kinds last (both-left (differs (kind .key) kinds last) (allDiffer kinds last) d)))),
   no-row-end kinds ts last ns rest (both-right (differs (kind .key) kinds last) (allDiffer kinds last) d),
 )
 
@@ -242,7 +243,8 @@ tables-text (kind ∷ kinds) [] last rest f d none = absurd f
 tables-text (kind ∷ kinds) (t ∷ ts) last rest f d none =
     ap (tables (kind ∷ kinds)) (append-assoc (rowsText (kind .key) (kind .width) (t .count) (t .words)) (tablesText kinds ts) rest)
     ∙ table-text kind kinds t (tablesText kinds ts ++ rest) (f .0)
-    (no-row (kind .key) (kind .width) kinds ts last rest (f .1) (both-left (differs (kind .key) kinds last) (allDiffer kinds last) d) (none .0))
+    (no-row (kind .key) (kind .width) kinds ts last rest (f .1) (both-left (differs (kind .key) kinds last) (allDiffer kinds last) d)
+    (λ z. line-missing (kind .key) (kind .width) rest (none .0 z)))
     ∙ ap (λ o. onward o (λ us u. got (t ∷ us) u))
     (tables-text kinds ts last rest (f .1) (both-right (differs (kind .key) kinds last) (allDiffer kinds last) d) (none .1))
 

@@ -22,7 +22,7 @@ use Rattle.monthfile.specs.Reading.{got, refused, onward, unfit, Rows, h
 use Rattle.monthfile.specs.Writing.{rowsText, headsText, tablesText, AllFit, Within}
 use Rattle.monthfile.specs.Calls.{nth}
 use Rattle.monthfile.specs.Refused.{beforeEnd, NoRow, Misfit, no-head, no-line, other-number, bytes-behind, AtMisfit, RowTooMany}
-use Rattle.monthfile.proofs.RowLaws.{rows-full}
+use Rattle.monthfile.proofs.RowLaws.{line-missing, rows-full}
 use Rattle.monthfile.proofs.Forms.{
   heads-stop,
   head-text,
@@ -95,9 +95,9 @@ module _ (form : Form) (sound : Sound form) (text : List ℕ) where
   unfolding reading
   stops front rest stands (no-head k ns h e b f none) =
       ap (λ o. onward o (λ ms s. onward (tables (form .kinds) s) (λ ts t. ending (length text) (form .last) (record { head = ms; tables = ts }) t)))
-      (ap (heads (length text) (form .heads)) (stands ∙ ap (λ u. u ++ rest) f) ∙ heads-short (length text) (form .heads) k ns rest h e b none)
+      (ap (heads (length text) (form .heads)) (stands ∙ ap (λ u. u ++ rest) f) ∙ heads-short (length text) (form .heads) k ns rest h e b (line-missing (getD (form .heads) k []) 1 rest none))
   stops front rest stands (no-line c w f rows none) =
-      behind-tables c front rest w stands f rows ∙ ending-stop (length text) (form .last) c rest none
+      behind-tables c front rest w stands f rows ∙ ending-stop (length text) (form .last) c rest (line-missing (form .last) 1 rest none)
   stops front rest stands (other-number c n more w small f e d) =
       behind-tables c front rest w stands f
       (subst (NoRow (form .kinds) (c .tables)) (sym e) (no-row-end (form .kinds) (c .tables) (form .last) (n ∷ []) more (sound .keys)))

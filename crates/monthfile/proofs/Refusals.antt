@@ -30,7 +30,7 @@ use Rattle.monthfile.specs.Reading.{Outcome, got, refused, onward, unfit
 use Rattle.monthfile.specs.Writing.{rowsText, headsText, tablesText, fileText, Within}
 use Rattle.monthfile.specs.Calls.{nth, placeOf}
 use Rattle.monthfile.specs.Refused.{beforeEnd, NoRow, Misfit, no-head, no-line, other-number, bytes-behind, AtMisfit, RowTooMany}
-use Rattle.monthfile.proofs.RowLaws.{rows-back, rows-ended, RowMore, rows-over}
+use Rattle.monthfile.proofs.RowLaws.{no-line-there, rows-back, rows-ended, RowMore, rows-over}
 use Rattle.monthfile.proofs.Forms.{
   not-both,
   heads-none,
@@ -201,8 +201,9 @@ no-row-left (kind ∷ kinds) s ts rest e =
     let back : TablesBack kinds (readOf kind s .rest) (first .others) rest = tables-back kinds (readOf kind s .rest) (first .others) rest (first .behind) in
     subst (λ us. NoRow (kind ∷ kinds) us rest) (first .both) (
       (λ z.
-          ap (line (kind .key) (kind .width)) (sym (back .written ∙ ap (λ u. u ++ rest) (no-rows-text kinds (first .others) z)))
-          ∙ rows-ended (kind .key) (kind .width) (kind .limit) s (first .few)),
+          no-line-there (kind .key) (kind .width) rest
+          (ap (line (kind .key) (kind .width)) (sym (back .written ∙ ap (λ u. u ++ rest) (no-rows-text kinds (first .others) z)))
+          ∙ rows-ended (kind .key) (kind .width) (kind .limit) s (first .few))),
       no-row-left kinds (readOf kind s .rest) (first .others) rest (first .behind),
     )
 
@@ -230,7 +231,8 @@ module _ (form : Form) (text : List ℕ) (a : Answer) where
       let before : length (take (stop .k) (form .heads)) ≡ stop .k =
       length-take-le (stop .k) (form .heads) (let h : stop .k < length (form .heads) = stop .is-head in omega arith) in
       misfit (headsText (take (stop .k) (form .heads)) (stop .ns)) (stop .rest) (stop .its) (stop .front .written)
-      (no-head (stop .k) (stop .ns) (stop .is-head) (stop .front .one-each ∙ before) (stop .front .below) refl (stop .none))
+      (no-head (stop .k) (stop .ns) (stop .is-head) (stop .front .one-each ∙ before) (stop .front .below) refl
+      (no-line-there (getD (form .heads) (stop .k) []) 1 (stop .rest) (stop .none)))
 
   module _ (ns s : List ℕ) (first : HeadsBack (form .heads) text ns s) where
     table-limit : TableStop (form .kinds) s a → AtLimit form text a
@@ -292,7 +294,7 @@ module _ (form : Form) (text : List ℕ) (a : Answer) where
           go : (o : Found (List ℕ)) → line (form .last) 1 t ≡ o → AtMisfit form text a
           go missing p =
               misfit (beforeEnd form c) t (same-refusal e (ending-stop (length text) (form .last) c t p)) stands
-              (no-line c within refl (no-row-left (form .kinds) s ts t read) p)
+              (no-line c within refl (no-row-left (form .kinds) s ts t read) (no-line-there (form .last) 1 t p))
           go (found ns u) p =
               ⊎-elim
               (λ (q : eqb (at ns 0) (rowsIn (c .tables)) ≡ true). shut ns u p (eqb-true (at ns 0) (rowsIn (c .tables)) q))

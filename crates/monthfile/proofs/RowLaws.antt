@@ -13,6 +13,24 @@ use Rattle.text.proofs.Below.{below-none, below-append, below-take, below-drop}
 use Rattle.text.proofs.Lines.{line-text, line-back, Line}
 use Rattle.monthfile.specs.Reading.{RowsRead, rows}
 use Rattle.monthfile.specs.Writing.{rowsText}
+use Rattle.monthfile.specs.Refused.{NoLine}
+
+-- a line is missing exactly where none stands
+pub no-line-there : (key : List ℕ) (width : ℕ) (rest : List ℕ) → line key width rest ≡ missing → NoLine key width rest
+no-line-there key width rest e ns more wide below stands =
+    let read : line key width rest ≡ found ns more =
+    ap (line key width) stands ∙ ap (λ w. line key w (lineText key ns ++ more)) (sym wide) ∙ line-text key ns more below in
+    let z : _≡_ {A = ℕ} 0 1 = cc in
+    omega arith
+
+pub line-missing : (key : List ℕ) (width : ℕ) (rest : List ℕ) → NoLine key width rest → line key width rest ≡ missing
+line-missing key width rest none = go (line key width rest) refl
+  where
+    go : (o : Found (List ℕ)) → line key width rest ≡ o → line key width rest ≡ missing
+    go missing e = e
+    go (found ns more) e =
+        let one : Line key width rest ns more = line-back key width rest ns more e in
+        absurd (none ns more (one .width-is) (one .below) (one .written))
 
 pub rows-none : (key : List ℕ) (width : ℕ) (s : List ℕ) → rows key width 0 s ≡ record { count = 0; words = []; rest = s }
 unfolding rows

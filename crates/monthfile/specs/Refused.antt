@@ -11,8 +11,8 @@ use Rattle.tables.specs.declared.Table.{Table}
 use Rattle.tables.specs.Shape.{number, width, limit, Tables, wordsOf}
 use Rattle.tables.specs.Good.{Counted}
 use Rattle.tables.specs.Refused.{refusal}
-use Rattle.text.specs.Numbers.{missing, bound, Below}
-use Rattle.text.specs.Lines.{line, lineText}
+use Rattle.text.specs.Numbers.{bound, Below}
+use Rattle.text.specs.Lines.{lineText}
 use Rattle.monthfile.specs.Form.{Kind, Form, kindOf, monthForm}
 use Rattle.monthfile.specs.Reading.{Rows, Contents, rowsIn}
 use Rattle.monthfile.specs.Writing.{headsText, tablesText, fileText, Within}
@@ -22,6 +22,10 @@ use Rattle.monthfile.specs.Calls.{nth, placeOf, monthText}
 abbrev pub Full : Tables → Table → Type 0
 Full lent table = limit table * width table ≤ length (wordsOf lent table)
 
+-- no line with this key and so many numbers stands there
+abbrev pub NoLine : List ℕ → ℕ → List ℕ → Type 0
+NoLine key width rest = (ns more : List ℕ) → length ns ≡ width → Below ns → rest ≢ lineText key ns ++ more
+
 -- every line of some contents but the last
 abbrev pub beforeEnd : Form → Contents → List ℕ
 beforeEnd form c = headsText (form .heads) (c .head) ++ tablesText (form .kinds) (c .tables)
@@ -30,17 +34,17 @@ beforeEnd form c = headsText (form .heads) (c .head) ++ tablesText (form .kinds)
 abbrev pub NoRow : List Kind → List Rows → List ℕ → Type 0
 NoRow [] ts rest = Unit {0}
 NoRow (kind ∷ kinds) [] rest = Unit {0}
-NoRow (kind ∷ kinds) (t ∷ ts) rest = (rowsIn ts ≡ 0 → line (kind .key) (kind .width) rest ≡ missing) × NoRow kinds ts rest
+NoRow (kind ∷ kinds) (t ∷ ts) rest = (rowsIn ts ≡ 0 → NoLine (kind .key) (kind .width) rest) × NoRow kinds ts rest
 
 module _ (form : Form) (front rest : List ℕ) where
   -- "a month file line that doesn't fit": every line in front fits in its turn, and what stands behind them does not
   pub data Misfit : Type 0 where
     -- k of the first lines, with their numbers, and the next is not there
     no-head : (k : ℕ) (ns : List ℕ) → k < length (form .heads) → length ns ≡ k → Below ns
-        → front ≡ headsText (take k (form .heads)) ns → line (getD (form .heads) k []) 1 rest ≡ missing → Misfit
+        → front ≡ headsText (take k (form .heads)) ns → NoLine (getD (form .heads) k []) 1 rest → Misfit
     -- neither a row whose turn is to come nor the last line
     no-line : (c : Contents) → Within form c
-        → front ≡ beforeEnd form c → NoRow (form .kinds) (c .tables) rest → line (form .last) 1 rest ≡ missing → Misfit
+        → front ≡ beforeEnd form c → NoRow (form .kinds) (c .tables) rest → NoLine (form .last) 1 rest → Misfit
     -- "An `end` with another number is TEXT at its line"
     other-number : (c : Contents) (n : ℕ) (more : List ℕ) → Within form c → n < bound
         → front ≡ beforeEnd form c → rest ≡ lineText (form .last) (n ∷ []) ++ more → n ≢ rowsIn (c .tables) → Misfit
