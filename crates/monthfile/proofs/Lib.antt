@@ -9,7 +9,8 @@ pub mod Pieces
 pub mod Contents
 pub mod Refusals
 pub mod Reasons
-pub mod Answers
-pub mod Fronts
+pub mod ReadCalls
+pub mod WriteCalls
+pub mod RoundTrips
 pub mod Promises
 pub mod Unique

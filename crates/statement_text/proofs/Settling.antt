@@ -21,8 +21,9 @@ use Rattle.monthfile.specs.declared.Reading.{Reading}
 use Rattle.monthfile.specs.Form.{monthForm}
 use Rattle.monthfile.specs.Reading.{Outcome, got, refused, Rows, Contents, reading}
 use Rattle.monthfile.specs.Calls.{nth, placeOf, readAnswer, Reads, countIn}
-use Rattle.monthfile.proofs.Answers.{outcome-full}
-use Rattle.monthfile.proofs.Fronts.{TableRead, TextRead, text-read}
+use Rattle.monthfile.proofs.Contents.{written-then-read}
+use Rattle.monthfile.proofs.ReadCalls.{outcome-full}
+use Rattle.monthfile.proofs.RoundTrips.{TableRead, TextRead, text-read}
 use Rattle.settlement.specs.Input.{Input, inputOf, ownerCount, accountCount}
 use Rattle.settlement.specs.Settled.{laid, answerOf, chargeOf, creditOf, chargeWords, creditWords, Settled}
 use Rattle.settlement.specs.Steps.{Holds}
@@ -50,6 +51,10 @@ module _ (text : List ℕ) (lent : Tables) (charges credits : List ℕ) (full : 
 
     contents : Contents
     contents = read .contents
+
+    holds : reading monthForm text ≡ got contents []
+    unfolding contents
+    holds = ap (reading monthForm) (read .written) ∙ written-then-read (read .contents) (read .within)
 
     module _ (table : Table) where
       own : Rows
@@ -127,9 +132,9 @@ module _ (text : List ℕ) (lent : Tables) (charges credits : List ℕ) (full : 
           }
 
       pub text-settled : FiguresFound text (after .accounts) (after .owners) charges′ credits′ (record { answer = a; accounts = held .accounts; owners = held .owners })
-      unfolding m contents
+      unfolding m
       text-settled =
           record {
-            answers = answer-is ∙ ap foundAnswer (sym (read .holds));
-            holds = λ y. (contents, [], read .holds, laid-out y);
+            answers = answer-is ∙ ap foundAnswer (sym holds);
+            holds = λ y. (contents, [], holds, laid-out y);
           }

@@ -1,46 +1,41 @@
--- What the contracts of `read` and `write` give: what an accepted call answers and stores, that a refused one changes nothing, and
--- which refusals there are.
+-- What the contract of `read` gives: what an accepted call answers and stores, that a refused one changes nothing, and which refusals
+-- there are.
 -- Assumes nothing.
 use mathlib.Core.Path.{_≡_, refl, sym, ap, subst, _∙_}
 use mathlib.Core.Logic.{⊎-elim, _≢_, _↔_}
 use mathlib.Core.List.{List, [], _∷_, _++_}
-use Prim.Native.Nat.{ℕ, _+_, _*_, _/_, _%_, _≤_, _<_}
-use native.Mathlib.Nat.{div-add-mod, le-trans, le-of-eq, mul-le-mul-right}
+use Prim.Native.Nat.{ℕ, _+_, _*_, _≤_, _<_}
+use native.Mathlib.Nat.{le-trans, le-of-eq, mul-le-mul-right}
 use native.Mathlib.Omega.{arith}
-use lib.ListN.{length, take, drop}
-use lib.Seq.{take-append-seam}
+use lib.ListN.{length, drop}
 use borrow.Author.Tests.{eq-eqb, ne-eqb}
 use Rattle.lists.proofs.Ranks.{lt-or-le}
 use Rattle.answer.specs.declared.Answer.{Answer}
-use Rattle.answer.specs.Numbers.{COUNT, ROOM, TEXT, head}
+use Rattle.answer.specs.Numbers.{COUNT, ROOM, TEXT}
 use Rattle.answer.specs.Turns.{accepted}
 use Rattle.tables.specs.declared.Table.{Table}
 use Rattle.tables.specs.declared.Table.the-variants.{Zones, Owners, Units, Accounts, Loads, Reservations}
-use Rattle.tables.specs.Shape.{number, width, limit, rows, Tables, wordsOf}
-use Rattle.tables.specs.Good.{Counted}
+use Rattle.tables.specs.Shape.{number, width, limit, Tables, wordsOf}
 use Rattle.tables.specs.Refused.{refusal}
-use Rattle.tables.specs.Judgement.{counted, roomFor}
-use Rattle.tables.proofs.Tests.{reworded, both, equal, at-least}
-use Rattle.tables.proofs.Stages.{Stage, passed, stopped, passed-on, then-stage, look-stage, in-turn-stage}
-use Rattle.text.specs.Numbers.{Below}
+use Rattle.tables.specs.Judgement.{roomFor}
+use Rattle.tables.proofs.Tests.{at-least}
+use Rattle.tables.proofs.Stages.{Stage, passed, stopped, look-stage, in-turn-stage}
 use Rattle.text.specs.Places.{stored}
-use Rattle.text.proofs.Stores.{stored-none, stored-is}
+use Rattle.text.proofs.Stores.{stored-is}
 use Rattle.monthfile.specs.declared.Reading.{Reading}
-use Rattle.monthfile.specs.declared.Written.{Written}
 use Rattle.monthfile.specs.Form.{monthForm, kindOf}
 use Rattle.monthfile.specs.Reading.{Outcome, got, refused, Rows, Contents, reading}
 use Rattle.monthfile.specs.Writing.{fileText, Fits, AllFit, Within}
-use Rattle.monthfile.specs.Calls.{contentsOf, monthText, rowsOf, allRows, nth, placeOf, fullSize, readRoom, readOutcome, readAnswer, tablesIn, filled, atFront, Reads, writeRefusal, textWritten, Writes}
-use Rattle.monthfile.specs.Refused.{Full, AtMisfit, RowTooMany, ReadRefused, by-room, by-text, by-count, WriteRefused, by-bad-table, by-short-room}
+use Rattle.monthfile.specs.Calls.{nth, placeOf, fullSize, readRoom, readOutcome, readAnswer, tablesIn, filled, atFront, Reads}
+use Rattle.monthfile.specs.Refused.{Full, AtMisfit, RowTooMany, ReadRefused, by-room, by-text, by-count}
 use Rattle.monthfile.proofs.Forms.{FileBack, file-back}
 use Rattle.monthfile.proofs.Contents.{month-sound, written-then-read}
 use Rattle.monthfile.proofs.Rooms.{nothing-filled}
-use Rattle.monthfile.proofs.Pieces.{none-written, all-written}
 use Rattle.monthfile.proofs.Refusals.{AtLimit, reading-refused, table-over}
 use Rattle.monthfile.proofs.Reasons.{misfit-refused, limit-refused}
 
 -- entries stored at the front of a lent list
-stored-front : (lent entries : List ℕ) → length entries ≤ length lent → stored lent 0 entries ≡ atFront entries lent
+pub stored-front : (lent entries : List ℕ) → length entries ≤ length lent → stored lent 0 entries ≡ atFront entries lent
 stored-front lent entries h =
     let fits : 0 + length entries ≤ length lent = omega arith in
     let size : 0 + length entries ≡ length entries = omega arith in
@@ -76,7 +71,7 @@ fits-front : (table : Table) (t : Rows) → Fits (kindOf table) t → {lent : �
 fits-front table t f full = le-trans (le-of-eq (f .whole)) (le-trans (mul-le-mul-right (width table) (f .few)) full)
 
 -- there is one first table that is not so
-one-first : (G : Table → Type 0) (x y : Table) → ((earlier : Table) → number earlier < number x → G earlier) → ¬ G x
+pub one-first : (G : Table → Type 0) (x y : Table) → ((earlier : Table) → number earlier < number x → G earlier) → ¬ G x
     → ((earlier : Table) → number earlier < number y → G earlier) → ¬ G y → number x ≡ number y
 one-first G x y before bad before′ bad′ =
     ⊎-elim
@@ -193,7 +188,7 @@ module _ (text : List ℕ) (lent : Tables) where
 
     -- an accepted read has each table's rows at its front, and behind them what was lent
     accepted-by : (o : Outcome Contents) → Way o → r ≡ readAnswer o → after ≡ filled lent (tablesIn o) → r .answer .number ≡ 0
-        → (c : Contents) × (reading monthForm text ≡ got c []) × (r ≡ readAnswer (got c []))
+        → (c : Contents) × Within monthForm c × (text ≡ fileText monthForm c) × (r ≡ readAnswer (got c []))
         × ((table : Table) → wordsOf after table ≡ atFront (nth (c .tables) (placeOf table) .words) (wordsOf lent table))
     accepted-by (refused a) w e s z = absurd (refused-number a w (ap (λ (h : Reading). h .answer .number) (sym e) ∙ z))
     accepted-by (got c rest) w e s z =
@@ -201,14 +196,15 @@ module _ (text : List ℕ) (lent : Tables) where
         let front : (table : Table) → length (nth (c .tables) (placeOf table) .words) ≤ length (wordsOf lent table) =
         λ table. fits-front table (nth (c .tables) (placeOf table)) (table-fits (c .tables) (back .within .fit) table) (w .1 table) in (
           c,
-          ap (reading monthForm) (back .written) ∙ written-then-read c (back .within),
+          back .within,
+          back .written,
           e,
           λ table. ap (λ k. wordsOf k table) s ∙ words-filled lent (c .tables) table
               ∙ stored-front (wordsOf lent table) (nth (c .tables) (placeOf table) .words) (front table),
         )
 
     pub read-accepted : r .answer .number ≡ 0
-        → (c : Contents) × (reading monthForm text ≡ got c []) × (r ≡ readAnswer (got c []))
+        → (c : Contents) × Within monthForm c × (text ≡ fileText monthForm c) × (r ≡ readAnswer (got c []))
         × ((table : Table) → wordsOf after table ≡ atFront (nth (c .tables) (placeOf table) .words) (wordsOf lent table))
     read-accepted z = accepted-by (readOutcome text lent) way (reads .answers) (reads .stores) z
 
@@ -216,148 +212,3 @@ module _ (text : List ℕ) (lent : Tables) where
     pub good-read : ((table : Table) → Full lent table) → (c : Contents) → Within monthForm c → text ≡ fileText monthForm c → r ≡ readAnswer (got c [])
     good-read full c within e =
         reads .answers ∙ ap readAnswer (outcome-full full ∙ ap (reading monthForm) e ∙ written-then-read c within)
-
--- the looks at COUNT and ROOM, and the text that is written
-module _ (month days nonzone : ℕ) (t : Tables) (lent : List ℕ) where
-  -- every table is whole rows within its limit and the text fits, or the refusal says why
-  abbrev WriteLooked : Type 0
-  WriteLooked =
-      Stage (((table : Table) → Counted t table) × (length (monthText month days nonzone t) ≤ length lent)) (WriteRefused month days nonzone t (length lent))
-      (writeRefusal month days nonzone t (length lent))
-
-  looks : WriteLooked
-  unfolding writeRefusal counted roomFor
-  looks =
-      then-stage
-      (in-turn-stage (Counted t) (WriteRefused month days nonzone t (length lent)) (λ table. counted table (length (wordsOf t table)))
-      (λ table before.
-      look-stage COUNT (number table) 0 (omega arith)
-      (reworded (λ p. record { whole = p .0; few = p .1 }) (λ r. (r .whole, r .few))
-      (both (equal (length (wordsOf t table) % width table) 0) (at-least (rows table (wordsOf t table)) (limit table))))
-      (by-bad-table table refl before)))
-      (λ all.
-      passed-on (λ fits. (all, fits))
-      (look-stage ROOM head 0 (omega arith) (at-least (length (monthText month days nonzone t)) (length lent)) (λ short. by-short-room refl all (omega arith))))
-
-  module _ (after : List ℕ) (r : Written) (writes : Writes month days nonzone t lent after r) where
-    refused-write : WriteLooked
-        → r .answer .number ≢ 0 → (r .length ≡ 0) × (after ≡ lent) × WriteRefused month days nonzone t (length lent) (r .answer)
-    refused-write (passed e g) d = absurd (d (ap (λ (a : Answer). a .number) (writes .answers ∙ e)))
-    refused-write (stopped n why) d = (
-      writes .length-is ∙ ap length (none-written month days nonzone t (length lent) n),
-      writes .stores ∙ ap (stored lent 0) (none-written month days nonzone t (length lent) n) ∙ stored-none lent 0,
-      subst (WriteRefused month days nonzone t (length lent)) (sym (writes .answers)) why,
-    )
-
-    -- a refused write answers 0 and changes no lent byte
-    pub write-refused : r .answer .number ≢ 0 → (r .length ≡ 0) × (after ≡ lent) × WriteRefused month days nonzone t (length lent) (r .answer)
-    write-refused d = refused-write looks d
-
-    -- whatever reason is so, is answered
-    write-why : (a : Answer) → WriteRefused month days nonzone t (length lent) a → (r .answer ≡ a) × (a .number ≢ 0)
-    write-why a why = let e : r .answer ≡ a = writes .answers ∙ go looks why in (e, λ z. number-of why z)
-      where
-        same : (b : Answer) → WriteRefused month days nonzone t (length lent) b → WriteRefused month days nonzone t (length lent) a → b ≡ a
-        same b (by-bad-table x e before bad) (by-bad-table y q before′ bad′) =
-            e ∙ ap (λ n. refusal COUNT n 0) (one-first (Counted t) x y before bad before′ bad′) ∙ sym q
-        same b (by-bad-table x e before bad) (by-short-room q all short) = absurd (bad (all x))
-        same b (by-short-room e all short) (by-bad-table y q before bad) = absurd (bad (all y))
-        same b (by-short-room e all short) (by-short-room q all′ short′) = e ∙ sym q
-
-        go : WriteLooked → WriteRefused month days nonzone t (length lent) a → writeRefusal month days nonzone t (length lent) ≡ a
-        go (passed e g) (by-bad-table x q before bad) = absurd (bad (g .0 x))
-        go (passed e g) (by-short-room q all short) = absurd (let fits = g .1 in omega arith)
-        go (stopped n w) so = same (writeRefusal month days nonzone t (length lent)) w so
-
-        number-of : WriteRefused month days nonzone t (length lent) a → a .number ≢ 0
-        number-of (by-bad-table x e before bad) z = let n : COUNT ≡ 0 = ap (λ (k : Answer). k .number) (sym e) ∙ z in omega arith
-        number-of (by-short-room e all short) z = let n : ROOM ≡ 0 = ap (λ (k : Answer). k .number) (sym e) ∙ z in omega arith
-
-    -- a write answers a refusal exactly when its reason is so
-    pub write-refused-exactly : (a : Answer) → WriteRefused month days nonzone t (length lent) a ↔ ((r .answer ≡ a) × (a .number ≢ 0))
-    write-refused-exactly a = (
-      write-why a,
-      (λ w.
-          subst (WriteRefused month days nonzone t (length lent)) (w .0)
-          (write-refused (λ z. w .1 (ap (λ (k : Answer). k .number) (sym (w .0)) ∙ z)) .2)),
-    )
-
-    written-by : WriteLooked
-        → r .answer .number ≡ 0
-        → (r .length ≡ length (monthText month days nonzone t)) × (after ≡ atFront (monthText month days nonzone t) lent)
-    written-by (passed e g) z =
-        let whole : textWritten month days nonzone t (length lent) ≡ monthText month days nonzone t =
-        all-written month days nonzone t (length lent) (ap (λ (a : Answer). a .number) e) in
-        (writes .length-is ∙ ap length whole, writes .stores ∙ ap (stored lent 0) whole ∙ stored-front lent (monthText month days nonzone t) (g .1))
-    written-by (stopped n why) z = absurd (n (ap (λ (a : Answer). a .number) (sym (writes .answers)) ∙ z))
-
-    -- an accepted write answers the text's length and has the text at the front, and behind it what was lent
-    pub write-accepted : r .answer .number ≡ 0
-        → (r .length ≡ length (monthText month days nonzone t)) × (after ≡ atFront (monthText month days nonzone t) lent)
-    write-accepted z = written-by looks z
-
-    -- tables of whole rows within their limits, in room for their text, are never refused
-    pub good-write : ((table : Table) → Counted t table) → length (monthText month days nonzone t) ≤ length lent → r .answer ≡ accepted
-    good-write all fits = writes .answers ∙ go looks
-      where
-        go : WriteLooked
-            → writeRefusal month days nonzone t (length lent) ≡ accepted
-        go (passed e g) = e
-        go (stopped n (by-bad-table table e before bad)) = absurd (bad (all table))
-        go (stopped n (by-short-room e counts short)) = absurd (omega arith)
-
--- what `write` wrote is read again: the same head, and in each table the same rows
-module _ (month days nonzone : ℕ) (t : Tables) (small : Below (month ∷ days ∷ nonzone ∷ [])) (below : (table : Table) → Below (wordsOf t table)) where
-  row-fits : ((table : Table) → Counted t table) → (table : Table) → Fits (kindOf table) (rowsOf table t)
-  row-fits all table =
-      record {
-        whole =
-            let split : width table * (length (wordsOf t table) / width table) + length (wordsOf t table) % width table ≡ length (wordsOf t table) =
-            div-add-mod (length (wordsOf t table)) (width table) in
-            omega (arith, all table .whole);
-        few = all table .few;
-        below = below table;
-      }
-
-  held-within : ((table : Table) → Counted t table) → Within monthForm (contentsOf month days nonzone t)
-  held-within all =
-      record {
-        one-each = refl;
-        small = small;
-        fit = (row-fits all Zones, (row-fits all Owners, (row-fits all Units, (row-fits all Accounts, (row-fits all Loads, (row-fits all Reservations, tt))))));
-      }
-
-  held-words : (table : Table) → nth (allRows t) (placeOf table) .words ≡ wordsOf t table
-  held-words Zones = refl
-  held-words Owners = refl
-  held-words Units = refl
-  held-words Accounts = refl
-  held-words Loads = refl
-  held-words Reservations = refl
-
-  module _ (out after : List ℕ) (w : Written) (writes : Writes month days nonzone t out after w) (z : w .answer .number ≡ 0) where
-    abbrev c : Contents
-    c = contentsOf month days nonzone t
-
-    whole-rows : WriteLooked month days nonzone t out → (table : Table) → Counted t table
-    whole-rows (passed e g) = g .0
-    whole-rows (stopped n why) = absurd (n (ap (λ (a : Answer). a .number) (sym (writes .answers)) ∙ z))
-
-    text-again : take (w .length) after ≡ fileText monthForm c
-    text-again =
-        let wrote = write-accepted month days nonzone t out after w writes z in
-        ap (λ k. take k after) (wrote .0) ∙ ap (take (length (fileText monthForm c))) (wrote .1)
-        ∙ take-append-seam (fileText monthForm c) (drop (length (fileText monthForm c)) out)
-
-    pub write-then-read : (lent filledIn : Tables) (r : Reading) → Reads (take (w .length) after) lent filledIn r → ((table : Table) → Full lent table)
-        → (r ≡ readAnswer (got c [])) × ((table : Table) → wordsOf filledIn table ≡ atFront (wordsOf t table) (wordsOf lent table))
-    write-then-read lent filledIn r reads full =
-        let within : Within monthForm c = held-within (whole-rows (looks month days nonzone t out)) in
-        let answer : r ≡ readAnswer (got c []) = good-read (take (w .length) after) lent filledIn r reads full c within text-again in
-        let got-it = read-accepted (take (w .length) after) lent filledIn r reads (ap (λ (h : Reading). h .answer .number) answer) in
-        let both-read : got c [] ≡ got (got-it .0) [] = sym (ap (reading monthForm) text-again ∙ written-then-read c within) ∙ got-it .1 in
-        let same : c ≡ got-it .0 = cc in (
-          answer,
-          λ table. got-it .3 table ∙ ap (λ (k : Contents). atFront (nth (k .tables) (placeOf table) .words) (wordsOf lent table)) (sym same)
-              ∙ ap (λ k. atFront k (wordsOf lent table)) (held-words table),
-        )

@@ -1,42 +1,32 @@
--- What an accepted read leaves at the front of the lent tables is what the text holds; written again, it is the text.
+-- What was read is written as the same text, and what was written is read as the same rows: from call to call.
 -- Assumes nothing.
 use mathlib.Core.Path.{_≡_, refl, sym, ap, _∙_}
 use mathlib.Core.List.{List, [], _∷_}
-use Prim.Native.Nat.{ℕ, suc, _+_, _*_, _/_, _%_, _≤_}
-use native.Mathlib.Nat.{le-trans, le-of-eq, mul-div-left, mul-mod-left}
+use Prim.Native.Nat.{ℕ, _+_, _*_, _/_, _%_, _≤_, suc}
+use native.Mathlib.Nat.{div-add-mod, le-trans, le-of-eq, mul-div-left, mul-mod-left}
 use native.Mathlib.Omega.{arith}
 use lib.ListN.{length, take, drop, length-append}
-use lib.Seq.{take-at}
+use lib.Seq.{take-append-seam, take-at}
 use Rattle.lists.specs.Sums.{at}
 use Rattle.answer.specs.declared.Answer.{Answer}
 use Rattle.answer.specs.Turns.{accepted}
 use Rattle.tables.specs.declared.Table.{Table}
 use Rattle.tables.specs.declared.Table.the-variants.{Zones, Owners, Units, Accounts, Loads, Reservations}
-use Rattle.tables.specs.Shape.{width, limit, Tables, wordsOf}
+use Rattle.tables.specs.Shape.{width, Tables, wordsOf}
 use Rattle.tables.specs.Good.{Counted}
 use Rattle.tables.proofs.Places.{width-pos}
+use Rattle.tables.proofs.Stages.{passed, stopped}
+use Rattle.text.specs.Numbers.{Below}
 use Rattle.monthfile.specs.declared.Reading.{Reading}
 use Rattle.monthfile.specs.declared.Written.{Written}
-use Rattle.monthfile.specs.Form.{kindOf, monthForm}
+use Rattle.monthfile.specs.Form.{monthForm, kindOf}
 use Rattle.monthfile.specs.Reading.{got, Rows, Contents, reading}
 use Rattle.monthfile.specs.Writing.{fileText, Fits, AllFit, Within}
-use Rattle.monthfile.specs.Calls.{
-  nth,
-  placeOf,
-  readAnswer,
-  atFront,
-  countIn,
-  front,
-  rowsRead,
-  Reads,
-  rowsOf,
-  allRows,
-  contentsOf,
-  monthText,
-  Writes,
-}
-use Rattle.monthfile.proofs.Forms.{file-back}
-use Rattle.monthfile.proofs.Answers.{table-fits, read-accepted, write-accepted, good-write}
+use Rattle.monthfile.specs.Calls.{contentsOf, monthText, rowsOf, allRows, nth, placeOf, readAnswer, atFront, Reads, Writes, countIn, front, rowsRead}
+use Rattle.monthfile.specs.Refused.{Full}
+use Rattle.monthfile.proofs.Contents.{written-then-read}
+use Rattle.monthfile.proofs.ReadCalls.{table-fits, read-accepted, good-read}
+use Rattle.monthfile.proofs.WriteCalls.{WriteLooked, looks, write-accepted, good-write}
 
 -- a table that was read: within its limits, counted, and at the front of the lent words
 pub record TableRead (r : Reading) (after : Tables) (table : Table) (own : Rows) : Type 0 where
@@ -48,7 +38,8 @@ pub record TableRead (r : Reading) (after : Tables) (table : Table) (own : Rows)
 -- a text that was read
 pub record TextRead (text : List ℕ) (r : Reading) (after : Tables) : Type 0 where
   pub contents : Contents
-  pub holds : reading monthForm text ≡ got contents []
+  pub within : Within monthForm contents
+  pub written : text ≡ fileText monthForm contents
   pub answers : r ≡ readAnswer (got contents [])
   pub table-read : (table : Table) → TableRead r after table (nth (contents .tables) (placeOf table))
 
@@ -79,15 +70,15 @@ front-read r after table own lent fits count words =
 pub text-read : (text : List ℕ) (lent after : Tables) (r : Reading) → Reads text lent after r → r .answer .number ≡ 0 → TextRead text r after
 text-read text lent after r reads z =
     let read = read-accepted text lent after r reads z in
-    let fit : AllFit (monthForm .kinds) (read .0 .tables) = file-back monthForm text (read .0) [] (read .1) .within .fit in
     record {
       contents = read .0;
-      holds = read .1;
-      answers = read .2;
+      within = read .1;
+      written = read .2;
+      answers = read .3;
       table-read =
           λ table.
-          front-read r after table (nth (read .0 .tables) (placeOf table)) (wordsOf lent table) (table-fits (read .0 .tables) fit table)
-          (ap (λ h. countIn h table) (read .2) ∙ count-at (read .0) [] table) (read .3 table);
+          front-read r after table (nth (read .0 .tables) (placeOf table)) (wordsOf lent table) (table-fits (read .0 .tables) (read .1 .fit) table)
+          (ap (λ h. countIn h table) (read .3) ∙ count-at (read .0) [] table) (read .4 table);
     }
 
 -- three numbers
@@ -150,22 +141,78 @@ module _ (text : List ℕ) (r : Reading) (after : Tables) (read : TextRead text 
   contents-are : contentsOf (r .month) (r .days) (r .nonzone) (rowsRead r after) ≡ read .contents
   unfolding own
   contents-are =
-      let within : Within monthForm (read .contents) = file-back monthForm text (read .contents) [] (read .holds) .within in
       let head : r .month ∷ r .days ∷ r .nonzone ∷ [] ≡ read .contents .head =
-      ap (λ (h : Reading). h .month ∷ h .days ∷ h .nonzone ∷ []) (read .answers) ∙ three (read .contents .head) (within .one-each) in
+      ap (λ (h : Reading). h .month ∷ h .days ∷ h .nonzone ∷ []) (read .answers) ∙ three (read .contents .head) (read .within .one-each) in
       let tables : allRows (rowsRead r after) ≡ read .contents .tables =
       (λ i. rows-are Zones i ∷ rows-are Owners i ∷ rows-are Units i ∷ rows-are Accounts i ∷ rows-are Loads i ∷ rows-are Reservations i ∷ [])
-      ∙ six (read .contents .tables) (within .fit) in
+      ∙ six (read .contents .tables) (read .within .fit) in
       λ i. record { head = head i; tables = tables i }
 
-  text-again : monthText (r .month) (r .days) (r .nonzone) (rowsRead r after) ≡ text
-  text-again = ap (fileText monthForm) contents-are ∙ sym (file-back monthForm text (read .contents) [] (read .holds) .written)
+  same-text : monthText (r .month) (r .days) (r .nonzone) (rowsRead r after) ≡ text
+  same-text = ap (fileText monthForm) contents-are ∙ sym (read .written)
 
   pub written-again : (out written : List ℕ) (w : Written) → Writes (r .month) (r .days) (r .nonzone) (rowsRead r after) out written w
       → length text ≤ length out → (w ≡ record { answer = accepted; length = length text }) × (written ≡ atFront text out)
   written-again out written w writes room =
       let answer : w .answer ≡ accepted =
-      good-write (r .month) (r .days) (r .nonzone) (rowsRead r after) out written w writes counted (le-trans (le-of-eq (ap length text-again)) room) in
+      good-write (r .month) (r .days) (r .nonzone) (rowsRead r after) out written w writes counted (le-trans (le-of-eq (ap length same-text)) room) in
       let wrote = write-accepted (r .month) (r .days) (r .nonzone) (rowsRead r after) out written w writes (ap (λ (a : Answer). a .number) answer) in
-      let size : w .length ≡ length text = wrote .0 ∙ ap length text-again in
-      ((λ i. record { answer = answer i; length = size i }), wrote .1 ∙ ap (λ s. atFront s out) text-again)
+      let size : w .length ≡ length text = wrote .0 ∙ ap length same-text in
+      ((λ i. record { answer = answer i; length = size i }), wrote .1 ∙ ap (λ s. atFront s out) same-text)
+
+-- what `write` wrote is read again: the same head, and in each table the same rows
+module _ (month days nonzone : ℕ) (t : Tables) (small : Below (month ∷ days ∷ nonzone ∷ [])) (below : (table : Table) → Below (wordsOf t table)) where
+  row-fits : ((table : Table) → Counted t table) → (table : Table) → Fits (kindOf table) (rowsOf table t)
+  row-fits all table =
+      record {
+        whole =
+            let split : width table * (length (wordsOf t table) / width table) + length (wordsOf t table) % width table ≡ length (wordsOf t table) =
+            div-add-mod (length (wordsOf t table)) (width table) in
+            omega (arith, all table .whole);
+        few = all table .few;
+        below = below table;
+      }
+
+  held-within : ((table : Table) → Counted t table) → Within monthForm (contentsOf month days nonzone t)
+  held-within all =
+      record {
+        one-each = refl;
+        small = small;
+        fit = (row-fits all Zones, (row-fits all Owners, (row-fits all Units, (row-fits all Accounts, (row-fits all Loads, (row-fits all Reservations, tt))))));
+      }
+
+  held-words : (table : Table) → nth (allRows t) (placeOf table) .words ≡ wordsOf t table
+  held-words Zones = refl
+  held-words Owners = refl
+  held-words Units = refl
+  held-words Accounts = refl
+  held-words Loads = refl
+  held-words Reservations = refl
+
+  module _ (out after : List ℕ) (w : Written) (writes : Writes month days nonzone t out after w) (z : w .answer .number ≡ 0) where
+    abbrev c : Contents
+    c = contentsOf month days nonzone t
+
+    whole-rows : WriteLooked month days nonzone t out → (table : Table) → Counted t table
+    whole-rows (passed e g) = g .0
+    whole-rows (stopped n why) = absurd (n (ap (λ (a : Answer). a .number) (sym (writes .answers)) ∙ z))
+
+    text-again : take (w .length) after ≡ fileText monthForm c
+    text-again =
+        let wrote = write-accepted month days nonzone t out after w writes z in
+        ap (λ k. take k after) (wrote .0) ∙ ap (take (length (fileText monthForm c))) (wrote .1)
+        ∙ take-append-seam (fileText monthForm c) (drop (length (fileText monthForm c)) out)
+
+    pub write-then-read : (lent filledIn : Tables) (r : Reading) → Reads (take (w .length) after) lent filledIn r → ((table : Table) → Full lent table)
+        → (r ≡ readAnswer (got c [])) × ((table : Table) → wordsOf filledIn table ≡ atFront (wordsOf t table) (wordsOf lent table))
+    write-then-read lent filledIn r reads full =
+        let within : Within monthForm c = held-within (whole-rows (looks month days nonzone t out)) in
+        let answer : r ≡ readAnswer (got c []) = good-read (take (w .length) after) lent filledIn r reads full c within text-again in
+        let got-it = read-accepted (take (w .length) after) lent filledIn r reads (ap (λ (h : Reading). h .answer .number) answer) in
+        let both-read : got c [] ≡ got (got-it .0) [] = sym (ap (reading monthForm) text-again ∙ written-then-read c within)
+        ∙ ap (reading monthForm) (got-it .2) ∙ written-then-read (got-it .0) (got-it .1) in
+        let same : c ≡ got-it .0 = cc in (
+          answer,
+          λ table. got-it .4 table ∙ ap (λ (k : Contents). atFront (nth (k .tables) (placeOf table) .words) (wordsOf lent table)) (sym same)
+              ∙ ap (λ k. atFront k (wordsOf lent table)) (held-words table),
+        )
