@@ -3,12 +3,12 @@
 -- Assumes nothing.
 use mathlib.Core.Path.{_≡_, refl, sym, ap, ap₂, _∙_, subst}
 use mathlib.Core.Logic.{_⊎_, ⊎-elim, _≢_}
-use mathlib.Core.Bool.{Bool, true, false, _&&_}
+use mathlib.Core.Bool.{Bool, true, false, _&&_, and-eq-true-iff}
 use mathlib.Core.List.{List, [], _∷_, _++_, append-assoc, append-nil}
 use Prim.Native.Nat.{ℕ, zero, suc, _+_, _-_, _≤_, _<_}
 use native.Mathlib.Omega.{arith}
 use lib.Dec.{eqb}
-use lib.ListN.{length, take, drop}
+use lib.ListN.{length, getD, take, drop}
 use borrow.Author.Tests.{lt-ltb, le-ltb, eq-eqb, ne-eqb, eqb-true, eqb-false}
 use Rattle.lists.specs.Sums.{at}
 use Rattle.lists.proofs.Ranks.{true-or-false, lt-or-le}
@@ -22,8 +22,9 @@ use Rattle.text.proofs.Below.{below-none, below-cons}
 use Rattle.text.proofs.Lines.{line-text, line-back, Line, line-apart}
 use Rattle.monthfile.specs.Form.{Kind, Form}
 use Rattle.monthfile.specs.Reading.{Outcome, got, refused, onward, unfit, Rows, RowsRead, rows, heads, tables, Contents, rowsIn, closed, ending, reading}
-use Rattle.monthfile.specs.Writing.{rowsText, headsText, tablesText, fileText, AllFit, Within}
-use Rattle.monthfile.proofs.RowLaws.{rows-text, rows-back, RowsBack}
+use Rattle.monthfile.specs.Writing.{rowsText, headsText, tablesText, fileText, Fits, AllFit, Within}
+use Rattle.monthfile.specs.Refused.{NoRow}
+use Rattle.monthfile.proofs.RowLaws.{no-line-there, line-missing, rows-text, rows-back, RowsBack}
 
 -- nothing is both refused and read
 pub not-both : {A : Type 0} {o : Outcome A} {a : A} {s : List ℕ} {r : Answer} → o ≡ refused r → o ≡ got a s → ⊥
@@ -56,13 +57,19 @@ unfolding heads
 heads-stop size key keys s e = rw e
 
 -- a list of one number
-single : (ns : List ℕ) → length ns ≡ 1 → ns ≡ at ns 0 ∷ []
+pub single : (ns : List ℕ) → length ns ≡ 1 → ns ≡ at ns 0 ∷ []
 single [] e = absurd (let z : 0 ≡ 1 = e in omega arith)
 single (n ∷ []) e = refl
 single (n ∷ m ∷ ns) e = absurd (let z : suc (suc (length ns)) ≡ 1 = e in omega arith)
 
-one-more : {n m : ℕ} → suc n ≡ suc m → n ≡ m
+pub one-more : {n m : ℕ} → suc n ≡ suc m → n ≡ m
 one-more e = omega arith
+
+-- a first line in front of others is read
+pub head-text : (size : ℕ) (key : List ℕ) (keys : List (List ℕ)) (n : ℕ) (later : List ℕ) → n < bound
+    → heads size (key ∷ keys) (lineText key (n ∷ []) ++ later) ≡ onward (heads size keys later) (λ ms u. got (n ∷ ms) u)
+head-text size key keys n later h =
+    heads-on size key keys (lineText key (n ∷ []) ++ later) (n ∷ []) later (line-text key (n ∷ []) later (below-cons n [] h below-none))
 
 pub heads-text : (size : ℕ) (keys : List (List ℕ)) (ns rest : List ℕ) → length ns ≡ length keys → Below ns
     → heads size keys (headsText keys ns ++ rest) ≡ got ns rest
@@ -72,8 +79,7 @@ heads-text size [] (n ∷ ns) rest e h = absurd (let z : suc (length ns) ≡ 0 =
 heads-text size (key ∷ keys) [] rest e h = absurd (let z : 0 ≡ suc (length keys) = e in omega arith)
 heads-text size (key ∷ keys) (n ∷ ns) rest e h =
     ap (heads size (key ∷ keys)) (append-assoc (lineText key (n ∷ [])) (headsText keys ns) rest)
-    ∙ heads-on size key keys (lineText key (n ∷ []) ++ (headsText keys ns ++ rest)) (n ∷ []) (headsText keys ns ++ rest)
-    (line-text key (n ∷ []) (headsText keys ns ++ rest) (below-cons n [] (h 0) below-none))
+    ∙ head-text size key keys n (headsText keys ns ++ rest) (h 0)
     ∙ ap (λ o. onward o (λ ms u. got (n ∷ ms) u)) (heads-text size keys ns rest (one-more e) (λ i. h (suc i)))
 
 pub record HeadsBack (keys : List (List ℕ)) (s ns rest : List ℕ) : Type 0 where
@@ -81,7 +87,7 @@ pub record HeadsBack (keys : List (List ℕ)) (s ns rest : List ℕ) : Type 0 wh
   pub one-each : length ns ≡ length keys
   pub below : Below ns
 
-heads-back-on : (key : List ℕ) (keys : List (List ℕ)) (s ns t ms rest : List ℕ) → line key 1 s ≡ found ns t → HeadsBack keys t ms rest
+pub heads-back-on : (key : List ℕ) (keys : List (List ℕ)) (s ns t ms rest : List ℕ) → line key 1 s ≡ found ns t → HeadsBack keys t ms rest
     → HeadsBack (key ∷ keys) s (ns ++ ms) rest
 unfolding headsText
 heads-back-on key keys s ns t ms rest e b =
@@ -117,6 +123,10 @@ heads-back size (key ∷ keys) s ns rest e = go (line key 1 s) refl (heads-back 
         let left : on .rest ≡ rest = cc in
         subst (λ k. HeadsBack (key ∷ keys) s k rest) value
         (heads-back-on key keys s one t (on .value) rest p (subst (HeadsBack keys t (on .value)) left (more t (on .value) (on .rest) (on .first))))
+
+-- the kind at a place
+abbrev pub kindAt : List Kind → ℕ → Kind
+kindAt kinds k = getD kinds k (record { key = []; width = 0; limit = 0; table = 0 })
 
 -- the tables
 pub tables-none : (s : List ℕ) → tables [] s ≡ got [] s
@@ -154,44 +164,89 @@ unfoldable pub allDiffer : List Kind → List ℕ → Bool
 allDiffer [] last = true
 allDiffer (kind ∷ kinds) last = differs (kind .key) kinds last && allDiffer kinds last
 
--- no row of a kind stands where rows of another do, or where later kinds and the last line do
-rows-apart : (key : List ℕ) (width : ℕ) (kind : Kind) (n : ℕ) (words rest : List ℕ) → differ key (kind .key) ≡ true → line key width rest ≡ missing
-    → line key width (rowsText (kind .key) (kind .width) n words ++ rest) ≡ missing
+-- a key that differs from those of some kinds and the last differs from the last, from that of each kind, and from those of the first kinds
+differs-last : (key : List ℕ) (kinds : List Kind) (last : List ℕ) → differs key kinds last ≡ true → differ key last ≡ true
+unfolding differs
+differs-last key [] last d = d
+differs-last key (kind ∷ kinds) last d = differs-last key kinds last (both-right (differ key (kind .key)) (differs key kinds last) d)
+
+pub differs-at : (key : List ℕ) (kinds : List Kind) (last : List ℕ) (k : ℕ) → k < length kinds → differs key kinds last ≡ true
+    → differ key (kindAt kinds k .key) ≡ true
+unfolding differs
+differs-at key [] last k h d = absurd (omega arith)
+differs-at key (kind ∷ kinds) last zero h d = both-left (differ key (kind .key)) (differs key kinds last) d
+differs-at key (kind ∷ kinds) last (suc k) h d =
+    differs-at key kinds last k (omega arith) (both-right (differ key (kind .key)) (differs key kinds last) d)
+
+pub differs-take : (key : List ℕ) (kinds : List Kind) (last : List ℕ) (k : ℕ) → differs key kinds last ≡ true → differs key (take k kinds) last ≡ true
+unfolding differs
+differs-take key kinds last zero d = differs-last key kinds last d
+differs-take key [] last (suc k) d = d
+differs-take key (kind ∷ kinds) last (suc k) d =
+    and-eq-true-iff (differ key (kind .key)) (differs key (take k kinds) last) .1 (
+      both-left (differ key (kind .key)) (differs key kinds last) d,
+      differs-take key kinds last k (both-right (differ key (kind .key)) (differs key kinds last) d),
+    )
+
+-- no row of a kind stands where rows of another do, or where rows of later kinds do
+rows-apart : (key : List ℕ) (width : ℕ) (kind : Kind) (n : ℕ) (words rest : List ℕ) → differ key (kind .key) ≡ true
+    → (n ≡ 0 → line key width rest ≡ missing) → line key width (rowsText (kind .key) (kind .width) n words ++ rest) ≡ missing
 unfolding rowsText
-rows-apart key width kind zero words rest d e = e
+rows-apart key width kind zero words rest d e = e refl
 rows-apart key width kind (suc n) words rest d e =
     ap (line key width) (append-assoc (lineText (kind .key) (take (kind .width) words)) (rowsText (kind .key) (kind .width) n (drop (kind .width) words)) rest)
     ∙ line-apart key (kind .key) width (take (kind .width) words) (rowsText (kind .key) (kind .width) n (drop (kind .width) words) ++ rest) d
 
-no-row : (key : List ℕ) (width : ℕ) (kinds : List Kind) (ts : List Rows) (last ns rest : List ℕ) → AllFit kinds ts → differs key kinds last ≡ true
-    → line key width (tablesText kinds ts ++ (lineText last ns ++ rest)) ≡ missing
-unfolding differs tablesText
-no-row key width [] [] last ns rest f d = line-apart key last width ns rest d
-no-row key width [] (t ∷ ts) last ns rest f d = absurd f
-no-row key width (kind ∷ kinds) [] last ns rest f d = absurd f
-no-row key width (kind ∷ kinds) (t ∷ ts) last ns rest f d =
-    ap (line key width) (append-assoc (rowsText (kind .key) (kind .width) (t .count) (t .words)) (tablesText kinds ts) (lineText last ns ++ rest))
-    ∙ rows-apart key width kind (t .count) (t .words) (tablesText kinds ts ++ (lineText last ns ++ rest))
+pub no-row : (key : List ℕ) (width : ℕ) (kinds : List Kind) (ts : List Rows) (last rest : List ℕ) → AllFit kinds ts → differs key kinds last ≡ true
+    → (rowsIn ts ≡ 0 → line key width rest ≡ missing) → line key width (tablesText kinds ts ++ rest) ≡ missing
+unfolding differs tablesText rowsIn
+no-row key width [] [] last rest f d e = e refl
+no-row key width [] (t ∷ ts) last rest f d e = absurd f
+no-row key width (kind ∷ kinds) [] last rest f d e = absurd f
+no-row key width (kind ∷ kinds) (t ∷ ts) last rest f d e =
+    ap (line key width) (append-assoc (rowsText (kind .key) (kind .width) (t .count) (t .words)) (tablesText kinds ts) rest)
+    ∙ rows-apart key width kind (t .count) (t .words) (tablesText kinds ts ++ rest)
     (both-left (differ key (kind .key)) (differs key kinds last) d)
-    (no-row key width kinds ts last ns rest (f .1) (both-right (differ key (kind .key)) (differs key kinds last) d))
+    (λ none.
+    no-row key width kinds ts last rest (f .1) (both-right (differ key (kind .key)) (differs key kinds last) d)
+    (λ others. e (ap₂ _+_ none others)))
 
-pub tables-text : (kinds : List Kind) (ts : List Rows) (last ns rest : List ℕ) → AllFit kinds ts → allDiffer kinds last ≡ true
-    → tables kinds (tablesText kinds ts ++ (lineText last ns ++ rest)) ≡ got ts (lineText last ns ++ rest)
-unfolding allDiffer tablesText
-tables-text [] [] last ns rest f d = tables-none (lineText last ns ++ rest)
-tables-text [] (t ∷ ts) last ns rest f d = absurd f
-tables-text (kind ∷ kinds) [] last ns rest f d = absurd f
-tables-text (kind ∷ kinds) (t ∷ ts) last ns rest f d =
-    let later : List ℕ = tablesText kinds ts ++ (lineText last ns ++ rest) in
+-- where the last line stands, no row does
+pub no-row-end : (kinds : List Kind) (ts : List Rows) (last ns rest : List ℕ) → allDiffer kinds last ≡ true → NoRow kinds ts (lineText last ns ++ rest)
+unfolding allDiffer
+no-row-end [] ts last ns rest d = tt
+no-row-end (kind ∷ kinds) [] last ns rest d = tt
+no-row-end (kind ∷ kinds) (t ∷ ts) last ns rest d = (
+  (λ z.
+      no-line-there (kind .key) (kind .width) (lineText last ns ++ rest)
+      (line-apart (kind .key) last (kind .width) ns rest
+      (differs-last (kind .key) kinds last (both-left (differs (kind .key) kinds last) (allDiffer kinds last) d)))),
+  no-row-end kinds ts last ns rest (both-right (differs (kind .key) kinds last) (allDiffer kinds last) d),
+)
+
+-- a table in front of others is read, where none of its rows stands behind it
+pub table-text : (kind : Kind) (kinds : List Kind) (t : Rows) (later : List ℕ) → Fits kind t → line (kind .key) (kind .width) later ≡ missing
+    → tables (kind ∷ kinds) (rowsText (kind .key) (kind .width) (t .count) (t .words) ++ later) ≡ onward (tables kinds later) (λ us u. got (t ∷ us) u)
+table-text kind kinds t later f none =
     let whole : List ℕ = rowsText (kind .key) (kind .width) (t .count) (t .words) ++ later in
     let own : readOf kind whole ≡ record { count = t .count; words = t .words; rest = later } =
-    rows-text (kind .key) (kind .width) (t .count) (kind .limit) (t .words) later (f .0 .few) (f .0 .whole) (f .0 .below)
-    (no-row (kind .key) (kind .width) kinds ts last ns rest (f .1) (both-left (differs (kind .key) kinds last) (allDiffer kinds last) d)) in
-    ap (tables (kind ∷ kinds)) (append-assoc (rowsText (kind .key) (kind .width) (t .count) (t .words)) (tablesText kinds ts) (lineText last ns ++ rest))
-    ∙ tables-on kind kinds whole (subst (λ (r : RowsRead). r .count ≤ kind .limit) (sym own) (f .0 .few))
+    rows-text (kind .key) (kind .width) (t .count) (kind .limit) (t .words) later (f .few) (f .whole) (f .below) none in
+    tables-on kind kinds whole (subst (λ (r : RowsRead). r .count ≤ kind .limit) (sym own) (f .few))
     ∙ ap (λ (r : RowsRead). onward (tables kinds (r .rest)) (λ us u. got (tableOf r ∷ us) u)) own
+
+pub tables-text : (kinds : List Kind) (ts : List Rows) (last rest : List ℕ) → AllFit kinds ts → allDiffer kinds last ≡ true → NoRow kinds ts rest
+    → tables kinds (tablesText kinds ts ++ rest) ≡ got ts rest
+unfolding allDiffer tablesText
+tables-text [] [] last rest f d none = tables-none rest
+tables-text [] (t ∷ ts) last rest f d none = absurd f
+tables-text (kind ∷ kinds) [] last rest f d none = absurd f
+tables-text (kind ∷ kinds) (t ∷ ts) last rest f d none =
+    ap (tables (kind ∷ kinds)) (append-assoc (rowsText (kind .key) (kind .width) (t .count) (t .words)) (tablesText kinds ts) rest)
+    ∙ table-text kind kinds t (tablesText kinds ts ++ rest) (f .0)
+    (no-row (kind .key) (kind .width) kinds ts last rest (f .1) (both-left (differs (kind .key) kinds last) (allDiffer kinds last) d)
+    (λ z. line-missing (kind .key) (kind .width) rest (none .0 z)))
     ∙ ap (λ o. onward o (λ us u. got (t ∷ us) u))
-    (tables-text kinds ts last ns rest (f .1) (both-right (differs (kind .key) kinds last) (allDiffer kinds last) d))
+    (tables-text kinds ts last rest (f .1) (both-right (differs (kind .key) kinds last) (allDiffer kinds last) d) (none .1))
 
 -- the first kind of those that were read, and the others behind it
 pub record FirstKind (kind : Kind) (kinds : List Kind) (s : List ℕ) (ts : List Rows) (rest : List ℕ) : Type 0 where
@@ -219,12 +274,11 @@ pub record TablesBack (kinds : List Kind) (s : List ℕ) (ts : List Rows) (rest 
   pub written : s ≡ tablesText kinds ts ++ rest
   pub fit : AllFit kinds ts
 
-tables-back-on : (kind : Kind) (kinds : List Kind) (s : List ℕ) (ts : List Rows) (rest : List ℕ) → readOf kind s .count ≤ kind .limit
-    → TablesBack kinds (readOf kind s .rest) ts rest → TablesBack (kind ∷ kinds) s (tableOf (readOf kind s) ∷ ts) rest
+pub tables-back-on : (kind : Kind) (kinds : List Kind) (s : List ℕ) (r : RowsRead) (ts : List Rows) (rest : List ℕ)
+    → RowsBack (kind .key) (kind .width) s r → r .count ≤ kind .limit
+    → TablesBack kinds (r .rest) ts rest → TablesBack (kind ∷ kinds) s (tableOf r ∷ ts) rest
 unfolding tablesText
-tables-back-on kind kinds s ts rest h b =
-    let own : RowsBack (kind .key) (kind .width) s (readOf kind s) = rows-back (kind .key) (kind .width) (suc (kind .limit)) s in
-    let r : RowsRead = readOf kind s in
+tables-back-on kind kinds s r ts rest own h b =
     record {
       written =
           own .written
@@ -243,7 +297,7 @@ tables-back [] s ts rest e =
 tables-back (kind ∷ kinds) s ts rest e =
     let first : FirstKind kind kinds s ts rest = first-kind kind kinds s ts rest e in
     subst (λ k. TablesBack (kind ∷ kinds) s k rest) (first .both)
-    (tables-back-on kind kinds s (first .others) rest (first .few)
+    (tables-back-on kind kinds s (readOf kind s) (first .others) rest (rows-back (kind .key) (kind .width) (suc (kind .limit)) s) (first .few)
     (tables-back kinds (readOf kind s .rest) (first .others) rest (first .behind)))
 
 -- the last line
@@ -299,24 +353,45 @@ pub record Sound (form : Form) : Type 0 where
   pub keys : allDiffer (form .kinds) (form .last) ≡ true
   pub size : mostRows (form .kinds) < bound
 
+-- the number of all rows is one
+pub rows-small : (form : Form) → Sound form → (c : Contents) → Within form c → rowsIn (c .tables) < bound
+rows-small form sound c w =
+    let few : rowsIn (c .tables) ≤ mostRows (form .kinds) = rows-in-most (form .kinds) (c .tables) (w .fit) in
+    omega (arith, sound .size)
+
+-- first lines in front are read, and what stands behind them
+pub reading-heads : (form : Form) (text ns s : List ℕ) → text ≡ headsText (form .heads) ns ++ s → length ns ≡ length (form .heads) → Below ns
+    → reading form text ≡ onward (tables (form .kinds) s) (λ ts t. ending (length text) (form .last) (record { head = ns; tables = ts }) t)
+unfolding reading
+reading-heads form text ns s e one-each below =
+    ap (λ o. onward o (λ head s. onward (tables (form .kinds) s) (λ ts t. ending (length text) (form .last) (record { head = head; tables = ts }) t)))
+    (ap (heads (length text) (form .heads)) e ∙ heads-text (length text) (form .heads) ns s one-each below)
+
+-- .. and so are tables behind them
+pub reading-tables : (form : Form) → Sound form → (text : List ℕ) (c : Contents) (rest : List ℕ) → Within form c
+    → text ≡ headsText (form .heads) (c .head) ++ (tablesText (form .kinds) (c .tables) ++ rest) → NoRow (form .kinds) (c .tables) rest
+    → reading form text ≡ ending (length text) (form .last) c rest
+reading-tables form sound text c rest w e none =
+    reading-heads form text (c .head) (tablesText (form .kinds) (c .tables) ++ rest) e (w .one-each) (w .small)
+    ∙ ap (λ o. onward o (λ ts t. ending (length text) (form .last) (record { head = c .head; tables = ts }) t))
+    (tables-text (form .kinds) (c .tables) (form .last) rest (w .fit) (sound .keys) none)
+
+-- .. and the last line
+pub reading-last : (form : Form) → Sound form → (text : List ℕ) (c : Contents) (rest : List ℕ) → Within form c → text ≡ fileText form c ++ rest
+    → reading form text ≡ closed (length text) c rest
+unfolding fileText
+reading-last form sound text c rest w e =
+    let last : List ℕ = lineText (form .last) (rowsIn (c .tables) ∷ []) in
+    reading-tables form sound text c (last ++ rest) w
+    (e ∙ append-assoc (headsText (form .heads) (c .head)) (tablesText (form .kinds) (c .tables) ++ last) rest
+    ∙ ap (λ u. headsText (form .heads) (c .head) ++ u) (append-assoc (tablesText (form .kinds) (c .tables)) last rest))
+    (no-row-end (form .kinds) (c .tables) (form .last) (rowsIn (c .tables) ∷ []) rest (sound .keys))
+    ∙ ending-on (length text) (form .last) c (last ++ rest) (rowsIn (c .tables) ∷ []) rest
+    (line-text (form .last) (rowsIn (c .tables) ∷ []) rest (below-cons (rowsIn (c .tables)) [] (rows-small form sound c w) below-none)) refl
+
 -- contents that are written are read again
 pub file-read : (form : Form) → Sound form → (c : Contents) → Within form c → reading form (fileText form c) ≡ got c []
-unfolding reading fileText
-file-read form sound c w =
-    let last : List ℕ = lineText (form .last) (rowsIn (c .tables) ∷ []) in
-    let tail : List ℕ = tablesText (form .kinds) (c .tables) ++ last in
-    let size : ℕ = length (headsText (form .heads) (c .head) ++ tail) in
-    let few : rowsIn (c .tables) ≤ mostRows (form .kinds) = rows-in-most (form .kinds) (c .tables) (w .fit) in
-    let small : rowsIn (c .tables) < bound = omega (arith, sound .size) in
-    let ended : line (form .last) 1 (last ++ []) ≡ found (rowsIn (c .tables) ∷ []) [] =
-    line-text (form .last) (rowsIn (c .tables) ∷ []) [] (below-cons (rowsIn (c .tables)) [] small below-none) in
-    ap (λ o. onward o (λ head s. onward (tables (form .kinds) s) (λ ts t. ending size (form .last) (record { head = head; tables = ts }) t)))
-    (heads-text size (form .heads) (c .head) tail (w .one-each) (w .small))
-    ∙ ap (λ s. onward (tables (form .kinds) (tablesText (form .kinds) (c .tables) ++ s)) (λ ts t. ending size (form .last) (record { head = c .head; tables = ts }) t))
-    (sym (append-nil last))
-    ∙ ap (λ o. onward o (λ ts t. ending size (form .last) (record { head = c .head; tables = ts }) t))
-    (tables-text (form .kinds) (c .tables) (form .last) (rowsIn (c .tables) ∷ []) [] (w .fit) (sound .keys))
-    ∙ ending-on size (form .last) c (last ++ []) (rowsIn (c .tables) ∷ []) [] ended refl
+file-read form sound c w = reading-last form sound (fileText form c) c [] w (sym (append-nil (fileText form c)))
 
 -- a text that is read is the text of what it holds, which is within the limits
 pub record FileBack (form : Form) (text : List ℕ) (c : Contents) : Type 0 where

@@ -8,6 +8,9 @@ pub mod Rooms
 pub mod Pieces
 pub mod Contents
 pub mod Refusals
-pub mod Answers
+pub mod Reasons
+pub mod ReadCalls
+pub mod WriteCalls
+pub mod RoundTrips
 pub mod Promises
 pub mod Unique

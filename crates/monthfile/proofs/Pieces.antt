@@ -21,9 +21,9 @@ use Rattle.text.specs.Lines.{lineText}
 use Rattle.text.specs.Places.{Put, Sized, stored}
 use Rattle.text.proofs.Stores.{stored-none}
 use Rattle.monthfile.specs.Form.{key, monthForm}
-use Rattle.monthfile.specs.Reading.{Contents, rowsIn}
+use Rattle.monthfile.specs.Reading.{rowsIn}
 use Rattle.monthfile.specs.Writing.{rowsText, headsText, tablesText, fileText}
-use Rattle.monthfile.specs.Calls.{allRows, contentsOf, writeRefusal, textWritten, Writes}
+use Rattle.monthfile.specs.Calls.{allRows, contentsOf, monthText, writeRefusal, textWritten, Writes}
 use Rattle.monthfile.proofs.Rooms.{room-short, room-enough}
 
 -- pieces in a row
@@ -80,57 +80,59 @@ all-rows t = refl
 pub size-nothing : (size cap : ℕ) → size ≤ cap → Sized size [] cap size
 size-nothing size cap h = record { capped = omega arith }
 
+-- nothing is written where `write` refuses, else the whole text
+module _ (month days nonzone : ℕ) (t : Tables) (room : ℕ) where
+  pub none-written : writeRefusal month days nonzone t room .number ≢ 0 → textWritten month days nonzone t room ≡ []
+  unfolding textWritten
+  none-written d = rw (ne-eqb (writeRefusal month days nonzone t room .number) 0 d)
+
+  pub all-written : writeRefusal month days nonzone t room .number ≡ 0 → textWritten month days nonzone t room ≡ monthText month days nonzone t
+  unfolding textWritten
+  all-written z = rw (eq-eqb (writeRefusal month days nonzone t room .number) 0 z)
+
 -- `write` from its parts
-module _ (c : Contents) (t : Tables) (lent : List ℕ) (counts : Answer) (judged : counts ≡ inTurn (λ table. counted table (length (wordsOf t table)))) where
-  refusal-is : writeRefusal c t (length lent) ≡ (counts then roomFor answers.head (length (fileText monthForm c)) (length lent))
+module _ (month days nonzone : ℕ) (t : Tables) (lent : List ℕ) (counts : Answer) (judged : counts ≡ inTurn (λ table. counted table (length (wordsOf t table)))) where
+  refusal-is : writeRefusal month days nonzone t (length lent) ≡ (counts then roomFor answers.head (length (monthText month days nonzone t)) (length lent))
   unfolding writeRefusal
-  refusal-is = ap (λ a. a then roomFor answers.head (length (fileText monthForm c)) (length lent)) (sym judged)
+  refusal-is = ap (λ a. a then roomFor answers.head (length (monthText month days nonzone t)) (length lent)) (sym judged)
 
-  none-written : writeRefusal c t (length lent) .number ≢ 0 → textWritten c t (length lent) ≡ []
-  unfolding textWritten
-  none-written d = rw (ne-eqb (writeRefusal c t (length lent) .number) 0 d)
-
-  all-written : writeRefusal c t (length lent) .number ≡ 0 → textWritten c t (length lent) ≡ fileText monthForm c
-  unfolding textWritten
-  all-written z = rw (eq-eqb (writeRefusal c t (length lent) .number) 0 z)
-
-  refuses : (a : Answer) → a ≡ writeRefusal c t (length lent) → a .number ≢ 0 → Writes c t lent lent (record { answer = a; length = 0 })
+  refuses : (a : Answer) → a ≡ writeRefusal month days nonzone t (length lent) → a .number ≢ 0 → Writes month days nonzone t lent lent (record { answer = a; length = 0 })
   refuses a e d =
-      let none : textWritten c t (length lent) ≡ [] = none-written (λ z. d (ap (λ (b : Answer). b .number) e ∙ z)) in
+      let none : textWritten month days nonzone t (length lent) ≡ [] = none-written month days nonzone t (length lent) (λ z. d (ap (λ (b : Answer). b .number) e ∙ z)) in
       record {
         answers = e;
         length-is = ap length (sym none);
         stores = sym (stored-none lent 0) ∙ ap (stored lent 0) (sym none);
       }
 
-  pub write-counts : counts .number ≢ 0 → Writes c t lent lent (record { answer = counts; length = 0 })
+  pub write-counts : counts .number ≢ 0 → Writes month days nonzone t lent lent (record { answer = counts; length = 0 })
   write-counts d =
-      refuses counts (sym (refusal-is ∙ then-first counts (roomFor answers.head (length (fileText monthForm c)) (length lent)) d)) d
+      refuses counts (sym (refusal-is ∙ then-first counts (roomFor answers.head (length (monthText month days nonzone t)) (length lent)) d)) d
 
-  module _ (z : counts .number ≡ 0) (size : ℕ) (s : Sized 0 (fileText monthForm c) (length lent + 1) size) where
-    by-room : writeRefusal c t (length lent) ≡ roomFor answers.head (length (fileText monthForm c)) (length lent)
-    by-room = refusal-is ∙ then-second counts (roomFor answers.head (length (fileText monthForm c)) (length lent)) z
+  module _ (z : counts .number ≡ 0) (size : ℕ) (s : Sized 0 (monthText month days nonzone t) (length lent + 1) size) where
+    by-room : writeRefusal month days nonzone t (length lent) ≡ roomFor answers.head (length (monthText month days nonzone t)) (length lent)
+    by-room = refusal-is ∙ then-second counts (roomFor answers.head (length (monthText month days nonzone t)) (length lent)) z
 
-    pub write-short : length lent < size → (a : Answer) → a ≡ refuse answers.ROOM answers.head 0 → Writes c t lent lent (record { answer = a; length = 0 })
+    pub write-short : length lent < size → (a : Answer) → a ≡ refuse answers.ROOM answers.head 0 → Writes month days nonzone t lent lent (record { answer = a; length = 0 })
     write-short h a e =
-        let short : length lent < length (fileText monthForm c) =
-        (let q : size ≡ min (0 + length (fileText monthForm c)) (length lent + 1) = s .capped in omega arith) in
-        refuses a (e ∙ room-short answers.head (length (fileText monthForm c)) (length lent) short ∙ sym by-room)
+        let short : length lent < length (monthText month days nonzone t) =
+        (let q : size ≡ min (0 + length (monthText month days nonzone t)) (length lent + 1) = s .capped in omega arith) in
+        refuses a (e ∙ room-short answers.head (length (monthText month days nonzone t)) (length lent) short ∙ sym by-room)
         (λ q. let y : 2 ≡ 0 = sym (ap (λ (b : Answer). b .number) e ∙ refuse-number answers.ROOM answers.head 0) ∙ q in omega arith)
 
-    pub write-fits : size ≤ length lent → 0 + length (fileText monthForm c) ≤ length lent
-    write-fits h = let q : size ≡ min (0 + length (fileText monthForm c)) (length lent + 1) = s .capped in omega arith
+    pub write-fits : size ≤ length lent → 0 + length (monthText month days nonzone t) ≤ length lent
+    write-fits h = let q : size ≡ min (0 + length (monthText month days nonzone t)) (length lent + 1) = s .capped in omega arith
 
-    pub write-fine : size ≤ length lent → (a : Answer) → a ≡ refuse 0 answers.head 0 → (n : ℕ) (after : List ℕ) → Put lent 0 (fileText monthForm c) n after
-        → Writes c t lent after (record { answer = a; length = n })
+    pub write-fine : size ≤ length lent → (a : Answer) → a ≡ refuse 0 answers.head 0 → (n : ℕ) (after : List ℕ) → Put lent 0 (monthText month days nonzone t) n after
+        → Writes month days nonzone t lent after (record { answer = a; length = n })
     write-fine h a e n after p =
-        let room : roomFor answers.head (length (fileText monthForm c)) (length lent) ≡ accepted =
-        sym (room-enough answers.head (length (fileText monthForm c)) (length lent) (omega (arith, write-fits h))) ∙ refuse-none 0 answers.head 0 refl in
-        let fine : writeRefusal c t (length lent) ≡ accepted = by-room ∙ room in
-        let all : textWritten c t (length lent) ≡ fileText monthForm c = all-written (ap (λ (a : Answer). a .number) fine) in
+        let room : roomFor answers.head (length (monthText month days nonzone t)) (length lent) ≡ accepted =
+        sym (room-enough answers.head (length (monthText month days nonzone t)) (length lent) (omega (arith, write-fits h))) ∙ refuse-none 0 answers.head 0 refl in
+        let fine : writeRefusal month days nonzone t (length lent) ≡ accepted = by-room ∙ room in
+        let all : textWritten month days nonzone t (length lent) ≡ monthText month days nonzone t = all-written month days nonzone t (length lent) (ap (λ (a : Answer). a .number) fine) in
         record {
           answers = e ∙ refuse-none 0 answers.head 0 refl ∙ sym fine;
-          length-is = p .onward ∙ zero-add (length (fileText monthForm c)) ∙ ap length (sym all);
+          length-is = p .onward ∙ zero-add (length (monthText month days nonzone t)) ∙ ap length (sym all);
           stores = p .written ∙ ap (stored lent 0) (sym all);
         }
 

@@ -5,14 +5,14 @@ use mathlib.Core.Bool.{cond}
 use mathlib.Core.List.{List, [], _∷_, _++_}
 use Prim.Native.Nat.{ℕ, _*_, _/_}
 use lib.Dec.{eqb}
-use lib.ListN.{length, getD, drop}
+use lib.ListN.{length, getD, take, drop}
 use Rattle.lists.specs.Sums.{at}
 use Rattle.answer.specs.declared.Answer.{Answer}
 use Rattle.answer.specs.Numbers as answers
 use Rattle.answer.specs.Turns.{accepted, _then_}
 use Rattle.tables.specs.declared.Table.{Table}
 use Rattle.tables.specs.declared.Table.the-variants.{Zones, Owners, Units, Accounts, Loads, Reservations}
-use Rattle.tables.specs.Shape.{number, width, limit, Tables, wordsOf}
+use Rattle.tables.specs.Shape.{number, width, limit, Tables, tablesOf, wordsOf}
 use Rattle.tables.specs.Counts.{inTurn, counted, roomFor}
 use Rattle.text.specs.Places.{stored}
 use Rattle.monthfile.specs.declared.Reading.{Reading}
@@ -103,6 +103,24 @@ pub record Reads (text : List ℕ) (lent after : Tables) (r : Reading) : Type 0 
   pub answers : r ≡ readAnswer (readOutcome text lent)
   pub stores : after ≡ filled lent (tablesIn (readOutcome text lent))
 
+-- how many rows of a table were read
+abbrev pub countIn : Reading → Table → ℕ
+countIn held Zones = held .zones
+countIn held Owners = held .owners
+countIn held Units = held .units
+countIn held Accounts = held .accounts
+countIn held Loads = held .loads
+countIn held Reservations = held .reservations
+
+-- the words of those rows, at the front of a lent table
+abbrev pub front : Reading → Tables → Table → List ℕ
+front held t table = take (countIn held table * width table) (wordsOf t table)
+
+-- .. of every table: what was read
+abbrev pub rowsRead : Reading → Tables → Tables
+rowsRead held t =
+    tablesOf (front held t Zones) (front held t Owners) (front held t Units) (front held t Accounts) (front held t Loads) (front held t Reservations)
+
 -- a table's whole rows
 abbrev pub rowsOf : Table → Tables → Rows
 rowsOf table t = record { count = length (wordsOf t table) / width table; words = wordsOf t table }
@@ -114,17 +132,21 @@ allRows t = rowsOf Zones t ∷ rowsOf Owners t ∷ rowsOf Units t ∷ rowsOf Acc
 abbrev pub contentsOf : ℕ → ℕ → ℕ → Tables → Contents
 contentsOf month days nonzone t = record { head = month ∷ days ∷ nonzone ∷ []; tables = allRows t }
 
--- "Writing refuses with COUNT (the first bad table), then ROOM (table 0)"
-unfoldable pub writeRefusal : Contents → Tables → ℕ → Answer
-writeRefusal c t room =
-    inTurn (λ table. counted table (length (wordsOf t table))) then roomFor answers.head (length (fileText monthForm c)) room
+abbrev pub monthText : ℕ → ℕ → ℕ → Tables → List ℕ
+monthText month days nonzone t = fileText monthForm (contentsOf month days nonzone t)
 
--- what is written, of which it "answers the length, 0 where refused": the text where it is accepted, else nothing
-unfoldable pub textWritten : Contents → Tables → ℕ → List ℕ
-textWritten c t room = cond (eqb (writeRefusal c t room .number) 0) (fileText monthForm c) []
+module _ (month days nonzone : ℕ) (t : Tables) where
+  -- "Writing refuses with COUNT (the first bad table), then ROOM (table 0)"
+  unfoldable pub writeRefusal : ℕ → Answer
+  writeRefusal room =
+      inTurn (λ table. counted table (length (wordsOf t table))) then roomFor answers.head (length (monthText month days nonzone t)) room
 
--- the contract of `write`: t are the lent tables, c the head and their rows
-pub record Writes (c : Contents) (t : Tables) (lent after : List ℕ) (r : Written) : Type 0 where
-  pub answers : r .answer ≡ writeRefusal c t (length lent)
-  pub length-is : r .length ≡ length (textWritten c t (length lent))
-  pub stores : after ≡ stored lent 0 (textWritten c t (length lent))
+  -- what is written, of which it "answers the length, 0 where refused": the text where it is accepted, else nothing
+  unfoldable pub textWritten : ℕ → List ℕ
+  textWritten room = cond (eqb (writeRefusal room .number) 0) (monthText month days nonzone t) []
+
+  -- the contract of `write`: the month is written to the front of the lent bytes, or nothing is
+  pub record Writes (lent after : List ℕ) (r : Written) : Type 0 where
+    pub answers : r .answer ≡ writeRefusal (length lent)
+    pub length-is : r .length ≡ length (textWritten (length lent))
+    pub stores : after ≡ stored lent 0 (textWritten (length lent))

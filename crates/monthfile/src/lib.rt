@@ -3,7 +3,7 @@
 // stores them, so that a refused file changes no lent word. `specs/Form.antt` has the form as a table of kinds, `Reading` what a
 // text holds or its first refusal, `Writing` the text of tables, `Refused` why a call refuses; the promises are `proofs/Promises.antt`.
 ghost use Rattle.tables.specs.Shape.{tablesOf};
-ghost use Rattle.monthfile.specs.Calls.{contentsOf, Reads, Writes};
+ghost use Rattle.monthfile.specs.Calls.{Reads, Writes};
 use answer::Answer;
 
 mod fill;
@@ -92,7 +92,7 @@ pub fn write(
     reservations: &[u64],
     out: &mut [u8],
 ) -> Written
-    ensures { λ r. ⌜ Writes (contentsOf month days nonzone (tablesOf (now (zones .entry)) (now (owners .entry)) (now (units .entry)) (now (accounts .entry)) (now (loads .entry)) (now (reservations .entry)))) (tablesOf (now (zones .entry)) (now (owners .entry)) (now (units .entry)) (now (accounts .entry)) (now (loads .entry)) (now (reservations .entry))) (now (out .entry)) (now (out .exit)) r ⌝ }
+    ensures { λ r. ⌜ Writes month days nonzone (tablesOf (now (zones .entry)) (now (owners .entry)) (now (units .entry)) (now (accounts .entry)) (now (loads .entry)) (now (reservations .entry))) (now (out .entry)) (now (out .exit)) r ⌝ }
 {
     let counts = tables::counts::judge_counts(
         zones.len(),

@@ -1,6 +1,5 @@
 pub mod Joining
 pub mod Showing
-pub mod Readings
 pub mod Totals
 pub mod Settling
 pub mod Stating

@@ -25,7 +25,7 @@ use Rattle.monthfile.specs.Form.{Kind}
 use Rattle.monthfile.specs.Reading.{Outcome, got, refused, Rows, tables}
 use Rattle.monthfile.specs.Writing.{rowsText, tablesText, AllFit}
 use Rattle.monthfile.specs.Calls.{nth}
-use Rattle.monthfile.proofs.Forms.{differs, allDiffer, tables-text}
+use Rattle.monthfile.proofs.Forms.{differs, allDiffer, no-row-end, tables-text}
 use Rattle.pool.specs.Input.{Input, ownerCount, accountCount}
 use Rattle.settlement.specs.Settled.{laid, chargeOf, creditOf}
 use Rattle.settlement.specs.Accepted.{Accepted}
@@ -143,7 +143,10 @@ module _ {m : Input} {lentCharges lentCredits : ℕ} (all : Accepted m lentCharg
   )
 
   read-back : tables kinds (statementLines m) ≡ got (told m) (totalLine m ++ [])
-  read-back = ap (tables kinds) (lines-are m) ∙ tables-text kinds (told m) (bytes "total") (allCharges m ∷ allCredits m ∷ []) [] fits keys-differ
+  read-back =
+      ap (tables kinds) (lines-are m)
+      ∙ tables-text kinds (told m) (bytes "total") (totalLine m ++ []) fits keys-differ
+      (no-row-end kinds (told m) (bytes "total") (allCharges m ∷ allCredits m ∷ []) [] keys-differ)
 
 abbrev gotten : Outcome (List Rows) → List Rows
 gotten (got ts rest) = ts

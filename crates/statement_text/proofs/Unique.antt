@@ -1,4 +1,3 @@
--- trial
 -- The contract determines the answer and the lent bytes: what it allows twice is the same.
 -- Assumes nothing.
 use mathlib.Core.Path.{_≡_, sym, _∙_}

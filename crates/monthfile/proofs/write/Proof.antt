@@ -1,7 +1,5 @@
 use Prim.Native.Nat.{_-_}
 use Rattle.tables.specs.Shape.{Tables, tablesOf}
-use Rattle.monthfile.specs.Reading.{Contents}
-use Rattle.monthfile.specs.Calls.{contentsOf}
 use Rattle.monthfile.proofs.Pieces.{counts-in-turn, write-counts, write-short, write-fits, write-fine}
 use borrow.Author.Needs.{needs}
 use Rattle.monthfile.proofs.write.Statement.{statement}
@@ -10,9 +8,6 @@ use Rattle.monthfile.proofs.write.Tie as tie
 abbrev lent : tie.Start → Tables
 lent e = tablesOf (e .args .zones .now) (e .args .owners .now) (e .args .units .now) (e .args .accounts .now) (e .args .loads .now) (e .args .reservations .now)
 
-abbrev held : tie.Start → Contents
-held e = contentsOf (e .args .month) (e .args .days) (e .args .nonzone) (lent e)
-
 -- src/lib.rt:88:9
 judge-counts-requires : tie.Need-judge-counts-requires
 judge-counts-requires c κs = search needs
@@ -20,7 +15,7 @@ judge-counts-requires c κs = search needs
 -- src/lib.rt:97:9
 returns : tie.Need-returns
 returns c =
-    write-counts (held (c .before .before .before .before .before .before .before .before .before .before)) (lent (c .before .before .before .before .before .before .before .before .before .before)) (c .before .before .before .before .before .before .before .before .before .before .args .out .now) (c .before .before .judge-counts .result)
+    write-counts (c .before .before .before .before .before .before .before .before .before .before .args .month) (c .before .before .before .before .before .before .before .before .before .before .args .days) (c .before .before .before .before .before .before .before .before .before .before .args .nonzone) (lent (c .before .before .before .before .before .before .before .before .before .before)) (c .before .before .before .before .before .before .before .before .before .before .args .out .now) (c .before .before .judge-counts .result)
     (counts-in-turn (lent (c .before .before .before .before .before .before .before .before .before .before)) (c .before .before .judge-counts .result) (c .before .before .judge-counts .ensures)) (c .if1 .taken)
 
 -- src/lib.rt:100:106
@@ -38,14 +33,14 @@ refused-requires c κs = search needs
 -- src/lib.rt:103:9
 returns-2 : tie.Need-returns-2
 returns-2 c =
-    write-short (held (c .before .before .before .before .before .before .before .before .before .before .before .before .before)) (lent (c .before .before .before .before .before .before .before .before .before .before .before .before .before)) (c .before .before .before .before .before .before .before .before .before .before .before .before .before .args .out .now) (c .before .before .before .before .before .judge-counts .result)
+    write-short (c .before .before .before .before .before .before .before .before .before .before .before .before .before .args .month) (c .before .before .before .before .before .before .before .before .before .before .before .before .before .args .days) (c .before .before .before .before .before .before .before .before .before .before .before .before .before .args .nonzone) (lent (c .before .before .before .before .before .before .before .before .before .before .before .before .before)) (c .before .before .before .before .before .before .before .before .before .before .before .before .before .args .out .now) (c .before .before .before .before .before .judge-counts .result)
     (counts-in-turn (lent (c .before .before .before .before .before .before .before .before .before .before .before .before .before)) (c .before .before .before .before .before .judge-counts .result) (c .before .before .before .before .before .judge-counts .ensures)) (c .before .before .before .if1 .left) (c .before .before .text-size .result) (c .before .before .text-size .ensures)
     (c .before .if2 .taken) (c .refused .result) (c .refused .ensures)
 
 -- src/lib.rt:105:9
 put-text-requires : tie.Need-put-text-requires
 put-text-requires c κs =
-    write-fits (held (c .before .before .before .before .before .before .before .before .before .before .before .before .before)) (lent (c .before .before .before .before .before .before .before .before .before .before .before .before .before)) (c .before .before .before .before .before .before .before .before .before .before .before .before .before .args .out .now) (c .before .before .before .before .before .judge-counts .result)
+    write-fits (c .before .before .before .before .before .before .before .before .before .before .before .before .before .args .month) (c .before .before .before .before .before .before .before .before .before .before .before .before .before .args .days) (c .before .before .before .before .before .before .before .before .before .before .before .before .before .args .nonzone) (lent (c .before .before .before .before .before .before .before .before .before .before .before .before .before)) (c .before .before .before .before .before .before .before .before .before .before .before .before .before .args .out .now) (c .before .before .before .before .before .judge-counts .result)
     (counts-in-turn (lent (c .before .before .before .before .before .before .before .before .before .before .before .before .before)) (c .before .before .before .before .before .judge-counts .result) (c .before .before .before .before .before .judge-counts .ensures)) (c .before .before .before .if1 .left) (c .before .before .text-size .result) (c .before .before .text-size .ensures)
     (c .before .if2 .left)
 
@@ -60,7 +55,7 @@ same-length c = c .before .before .before .put-text .kept .1 .1 .1 .1 .1 .1 .1 .
 -- src/lib.rt:74:1
 returns-3 : tie.Need-returns-3
 returns-3 c =
-    write-fine (held (c .before .before .before .before .before .before .before .before .before .before .before .before .before .before .before .before .before)) (lent (c .before .before .before .before .before .before .before .before .before .before .before .before .before .before .before .before .before)) (c .before .before .before .before .before .before .before .before .before .before .before .before .before .before .before .before .before .args .out .now) (c .before .before .before .before .before .before .before .before .before .judge-counts .result)
+    write-fine (c .before .before .before .before .before .before .before .before .before .before .before .before .before .before .before .before .before .args .month) (c .before .before .before .before .before .before .before .before .before .before .before .before .before .before .before .before .before .args .days) (c .before .before .before .before .before .before .before .before .before .before .before .before .before .before .before .before .before .args .nonzone) (lent (c .before .before .before .before .before .before .before .before .before .before .before .before .before .before .before .before .before)) (c .before .before .before .before .before .before .before .before .before .before .before .before .before .before .before .before .before .args .out .now) (c .before .before .before .before .before .before .before .before .before .judge-counts .result)
     (counts-in-turn (lent (c .before .before .before .before .before .before .before .before .before .before .before .before .before .before .before .before .before)) (c .before .before .before .before .before .before .before .before .before .judge-counts .result) (c .before .before .before .before .before .before .before .before .before .judge-counts .ensures)) (c .before .before .before .before .before .before .before .if1 .left) (c .before .before .before .before .before .before .text-size .result) (c .before .before .before .before .before .before .text-size .ensures)
     (c .before .before .before .before .before .if2 .left) (c .refused2 .result) (c .refused2 .ensures) (c .before .before .before .put-text .result) (c .before .before .before .put-text .last .1 .1 .1 .1 .1 .1 .1 .1 .1 .0) (c .before .before .before .put-text .ensures)
 

@@ -1,0 +1,218 @@
+-- What was read is written as the same text, and what was written is read as the same rows: from call to call.
+-- Assumes nothing.
+use mathlib.Core.Path.{_≡_, refl, sym, ap, _∙_}
+use mathlib.Core.List.{List, [], _∷_}
+use Prim.Native.Nat.{ℕ, _+_, _*_, _/_, _%_, _≤_, suc}
+use native.Mathlib.Nat.{div-add-mod, le-trans, le-of-eq, mul-div-left, mul-mod-left}
+use native.Mathlib.Omega.{arith}
+use lib.ListN.{length, take, drop, length-append}
+use lib.Seq.{take-append-seam, take-at}
+use Rattle.lists.specs.Sums.{at}
+use Rattle.answer.specs.declared.Answer.{Answer}
+use Rattle.answer.specs.Turns.{accepted}
+use Rattle.tables.specs.declared.Table.{Table}
+use Rattle.tables.specs.declared.Table.the-variants.{Zones, Owners, Units, Accounts, Loads, Reservations}
+use Rattle.tables.specs.Shape.{width, Tables, wordsOf}
+use Rattle.tables.specs.Counts.{Counted}
+use Rattle.tables.proofs.Places.{width-pos}
+use Rattle.tables.proofs.Stages.{passed, stopped}
+use Rattle.text.specs.Numbers.{Below}
+use Rattle.monthfile.specs.declared.Reading.{Reading}
+use Rattle.monthfile.specs.declared.Written.{Written}
+use Rattle.monthfile.specs.Form.{monthForm, kindOf}
+use Rattle.monthfile.specs.Reading.{got, Rows, Contents, reading}
+use Rattle.monthfile.specs.Writing.{fileText, Fits, AllFit, Within}
+use Rattle.monthfile.specs.Calls.{contentsOf, monthText, rowsOf, allRows, nth, placeOf, readAnswer, atFront, Reads, Writes, countIn, front, rowsRead}
+use Rattle.monthfile.specs.Refused.{Full}
+use Rattle.monthfile.proofs.Contents.{written-then-read}
+use Rattle.monthfile.proofs.ReadCalls.{table-fits, read-accepted, good-read}
+use Rattle.monthfile.proofs.WriteCalls.{WriteLooked, looks, write-accepted, good-write}
+
+-- a table that was read: within its limits, counted, and at the front of the lent words
+pub record TableRead (r : Reading) (after : Tables) (table : Table) (own : Rows) : Type 0 where
+  pub fits : Fits (kindOf table) own
+  pub count-is : countIn r table ≡ own .count
+  pub there : countIn r table * width table ≤ length (wordsOf after table)
+  pub front-is : front r after table ≡ own .words
+
+-- a text that was read
+pub record TextRead (text : List ℕ) (r : Reading) (after : Tables) : Type 0 where
+  pub contents : Contents
+  pub within : Within monthForm contents
+  pub written : text ≡ fileText monthForm contents
+  pub answers : r ≡ readAnswer (got contents [])
+  pub table-read : (table : Table) → TableRead r after table (nth (contents .tables) (placeOf table))
+
+-- how many rows of a table a text holds, by its place among those of a file
+count-at : (c : Contents) (rest : List ℕ) (table : Table) → countIn (readAnswer (got c rest)) table ≡ nth (c .tables) (placeOf table) .count
+count-at c rest Zones = refl
+count-at c rest Owners = refl
+count-at c rest Units = refl
+count-at c rest Accounts = refl
+count-at c rest Loads = refl
+count-at c rest Reservations = refl
+
+-- rows at the front of lent words
+front-read : (r : Reading) (after : Tables) (table : Table) (own : Rows) (lent : List ℕ) → Fits (kindOf table) own → countIn r table ≡ own .count
+    → wordsOf after table ≡ atFront (own .words) lent → TableRead r after table own
+front-read r after table own lent fits count words =
+    let behind : List ℕ = drop (length (own .words)) lent in
+    let size : length (own .words) ≡ countIn r table * width table = fits .whole ∙ ap (λ n. n * width table) (sym count) in
+    record {
+      fits = fits;
+      count-is = count;
+      there =
+          let all : length (wordsOf after table) ≡ length (own .words) + length behind = ap length words ∙ length-append (own .words) behind in
+          le-trans (le-of-eq (sym size)) (omega arith);
+      front-is = ap (take (countIn r table * width table)) words ∙ take-at (own .words) behind (countIn r table * width table) size;
+    }
+
+pub text-read : (text : List ℕ) (lent after : Tables) (r : Reading) → Reads text lent after r → r .answer .number ≡ 0 → TextRead text r after
+text-read text lent after r reads z =
+    let read = read-accepted text lent after r reads z in
+    record {
+      contents = read .0;
+      within = read .1;
+      written = read .2;
+      answers = read .3;
+      table-read =
+          λ table.
+          front-read r after table (nth (read .0 .tables) (placeOf table)) (wordsOf lent table) (table-fits (read .0 .tables) (read .1 .fit) table)
+          (ap (λ h. countIn h table) (read .3) ∙ count-at (read .0) [] table) (read .4 table);
+    }
+
+-- three numbers
+three : (ns : List ℕ) → length ns ≡ 3 → at ns 0 ∷ at ns 1 ∷ at ns 2 ∷ [] ≡ ns
+three [] e = absurd (let z : 0 ≡ 3 = e in omega arith)
+three (a ∷ []) e = absurd (let z : 1 ≡ 3 = e in omega arith)
+three (a ∷ b ∷ []) e = absurd (let z : 2 ≡ 3 = e in omega arith)
+three (a ∷ b ∷ c ∷ []) e = refl
+three (a ∷ b ∷ c ∷ d ∷ ns) e = absurd (let z : suc (suc (suc (suc (length ns)))) ≡ 3 = e in omega arith)
+
+-- six tables
+six : (ts : List Rows) → AllFit (monthForm .kinds) ts → nth ts 0 ∷ nth ts 1 ∷ nth ts 2 ∷ nth ts 3 ∷ nth ts 4 ∷ nth ts 5 ∷ [] ≡ ts
+six (a ∷ b ∷ c ∷ d ∷ e ∷ f ∷ []) h = refl
+six [] h = absurd h
+six (a ∷ []) h = absurd (h .1)
+six (a ∷ b ∷ []) h = absurd (h .1 .1)
+six (a ∷ b ∷ c ∷ []) h = absurd (h .1 .1 .1)
+six (a ∷ b ∷ c ∷ d ∷ []) h = absurd (h .1 .1 .1 .1)
+six (a ∷ b ∷ c ∷ d ∷ e ∷ []) h = absurd (h .1 .1 .1 .1 .1)
+six (a ∷ b ∷ c ∷ d ∷ e ∷ f ∷ g ∷ more) h = absurd (h .1 .1 .1 .1 .1 .1)
+
+words-of-read : (r : Reading) (after : Tables) (table : Table) → wordsOf (rowsRead r after) table ≡ front r after table
+words-of-read r after Zones = refl
+words-of-read r after Owners = refl
+words-of-read r after Units = refl
+words-of-read r after Accounts = refl
+words-of-read r after Loads = refl
+words-of-read r after Reservations = refl
+
+module _ (text : List ℕ) (r : Reading) (after : Tables) (read : TextRead text r after) where
+  module _ (table : Table) where
+    own : Rows
+    own = nth (read .contents .tables) (placeOf table)
+
+    own-read : TableRead r after table own
+    unfolding own
+    own-read = read .table-read table
+
+    words-are : wordsOf (rowsRead r after) table ≡ own .words
+    words-are = words-of-read r after table ∙ own-read .front-is
+
+    size-is : length (wordsOf (rowsRead r after) table) ≡ own .count * width table
+    size-is = ap length words-are ∙ own-read .fits .whole
+
+    count-is : length (wordsOf (rowsRead r after) table) / width table ≡ own .count
+    count-is = ap (λ n. n / width table) size-is ∙ mul-div-left (own .count) (width-pos table)
+
+    -- what was read is whole rows within the limit
+    counted : Counted (rowsRead r after) table
+    counted =
+        record {
+          whole = ap (λ n. n % width table) size-is ∙ mul-mod-left (own .count) (width table);
+          few = le-trans (le-of-eq count-is) (own-read .fits .few);
+        }
+
+    rows-are : rowsOf table (rowsRead r after) ≡ own
+    rows-are = λ i. record { count = count-is i; words = words-are i }
+
+  -- what was read is what the text holds, and its text is the text
+  contents-are : contentsOf (r .month) (r .days) (r .nonzone) (rowsRead r after) ≡ read .contents
+  unfolding own
+  contents-are =
+      let head : r .month ∷ r .days ∷ r .nonzone ∷ [] ≡ read .contents .head =
+      ap (λ (h : Reading). h .month ∷ h .days ∷ h .nonzone ∷ []) (read .answers) ∙ three (read .contents .head) (read .within .one-each) in
+      let tables : allRows (rowsRead r after) ≡ read .contents .tables =
+      (λ i. rows-are Zones i ∷ rows-are Owners i ∷ rows-are Units i ∷ rows-are Accounts i ∷ rows-are Loads i ∷ rows-are Reservations i ∷ [])
+      ∙ six (read .contents .tables) (read .within .fit) in
+      λ i. record { head = head i; tables = tables i }
+
+  same-text : monthText (r .month) (r .days) (r .nonzone) (rowsRead r after) ≡ text
+  same-text = ap (fileText monthForm) contents-are ∙ sym (read .written)
+
+  pub written-again : (out written : List ℕ) (w : Written) → Writes (r .month) (r .days) (r .nonzone) (rowsRead r after) out written w
+      → length text ≤ length out → (w ≡ record { answer = accepted; length = length text }) × (written ≡ atFront text out)
+  written-again out written w writes room =
+      let answer : w .answer ≡ accepted =
+      good-write (r .month) (r .days) (r .nonzone) (rowsRead r after) out written w writes counted (le-trans (le-of-eq (ap length same-text)) room) in
+      let wrote = write-accepted (r .month) (r .days) (r .nonzone) (rowsRead r after) out written w writes (ap (λ (a : Answer). a .number) answer) in
+      let size : w .length ≡ length text = wrote .0 ∙ ap length same-text in
+      ((λ i. record { answer = answer i; length = size i }), wrote .1 ∙ ap (λ s. atFront s out) same-text)
+
+-- what `write` wrote is read again: the same head, and in each table the same rows
+module _ (month days nonzone : ℕ) (t : Tables) (small : Below (month ∷ days ∷ nonzone ∷ [])) (below : (table : Table) → Below (wordsOf t table)) where
+  row-fits : ((table : Table) → Counted t table) → (table : Table) → Fits (kindOf table) (rowsOf table t)
+  row-fits all table =
+      record {
+        whole =
+            let split : width table * (length (wordsOf t table) / width table) + length (wordsOf t table) % width table ≡ length (wordsOf t table) =
+            div-add-mod (length (wordsOf t table)) (width table) in
+            omega (arith, all table .whole);
+        few = all table .few;
+        below = below table;
+      }
+
+  held-within : ((table : Table) → Counted t table) → Within monthForm (contentsOf month days nonzone t)
+  held-within all =
+      record {
+        one-each = refl;
+        small = small;
+        fit = (row-fits all Zones, (row-fits all Owners, (row-fits all Units, (row-fits all Accounts, (row-fits all Loads, (row-fits all Reservations, tt))))));
+      }
+
+  held-words : (table : Table) → nth (allRows t) (placeOf table) .words ≡ wordsOf t table
+  held-words Zones = refl
+  held-words Owners = refl
+  held-words Units = refl
+  held-words Accounts = refl
+  held-words Loads = refl
+  held-words Reservations = refl
+
+  module _ (out after : List ℕ) (w : Written) (writes : Writes month days nonzone t out after w) (z : w .answer .number ≡ 0) where
+    abbrev c : Contents
+    c = contentsOf month days nonzone t
+
+    whole-rows : WriteLooked month days nonzone t out → (table : Table) → Counted t table
+    whole-rows (passed e g) = g .0
+    whole-rows (stopped n why) = absurd (n (ap (λ (a : Answer). a .number) (sym (writes .answers)) ∙ z))
+
+    text-again : take (w .length) after ≡ fileText monthForm c
+    text-again =
+        let wrote = write-accepted month days nonzone t out after w writes z in
+        ap (λ k. take k after) (wrote .0) ∙ ap (take (length (fileText monthForm c))) (wrote .1)
+        ∙ take-append-seam (fileText monthForm c) (drop (length (fileText monthForm c)) out)
+
+    pub write-then-read : (lent filledIn : Tables) (r : Reading) → Reads (take (w .length) after) lent filledIn r → ((table : Table) → Full lent table)
+        → (r ≡ readAnswer (got c [])) × ((table : Table) → wordsOf filledIn table ≡ atFront (wordsOf t table) (wordsOf lent table))
+    write-then-read lent filledIn r reads full =
+        let within : Within monthForm c = held-within (whole-rows (looks month days nonzone t out)) in
+        let answer : r ≡ readAnswer (got c []) = good-read (take (w .length) after) lent filledIn r reads full c within text-again in
+        let got-it = read-accepted (take (w .length) after) lent filledIn r reads (ap (λ (h : Reading). h .answer .number) answer) in
+        let both-read : got c [] ≡ got (got-it .0) [] = sym (ap (reading monthForm) text-again ∙ written-then-read c within)
+        ∙ ap (reading monthForm) (got-it .2) ∙ written-then-read (got-it .0) (got-it .1) in
+        let same : c ≡ got-it .0 = cc in (
+          answer,
+          λ table. got-it .4 table ∙ ap (λ (k : Contents). atFront (nth (k .tables) (placeOf table) .words) (wordsOf lent table)) (sym same)
+              ∙ ap (λ k. atFront k (wordsOf lent table)) (held-words table),
+        )
