@@ -23,7 +23,7 @@ use Rattle.text.proofs.Stores.{stored-none}
 use Rattle.monthfile.specs.Form.{key, monthForm}
 use Rattle.monthfile.specs.Reading.{rowsIn}
 use Rattle.monthfile.specs.Writing.{rowsText, headsText, tablesText, fileText}
-use Rattle.monthfile.specs.Calls.{allRows, contentsOf, monthText, writeRefusal, textWritten, Writes}
+use Rattle.monthfile.specs.Calls.{allRows, monthText, writeRefusal, textWritten, Writes}
 use Rattle.monthfile.proofs.Rooms.{room-short, room-enough}
 
 -- pieces in a row
@@ -68,7 +68,7 @@ heads-pieces month days nonzone = refl
 pub file-pieces : (month days nonzone : ℕ) (t : Tables)
     → headsText (monthForm .heads) (month ∷ days ∷ nonzone ∷ [])
     ++ (tablesText (monthForm .kinds) (allRows t) ++ lineText (monthForm .last) (rowsIn (allRows t) ∷ []))
-    ≡ fileText monthForm (contentsOf month days nonzone t)
+    ≡ monthText month days nonzone t
 unfolding fileText
 file-pieces month days nonzone t = refl
 

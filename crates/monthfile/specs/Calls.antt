@@ -132,6 +132,7 @@ allRows t = rowsOf Zones t ∷ rowsOf Owners t ∷ rowsOf Units t ∷ rowsOf Acc
 abbrev pub contentsOf : ℕ → ℕ → ℕ → Tables → Contents
 contentsOf month days nonzone t = record { head = month ∷ days ∷ nonzone ∷ []; tables = allRows t }
 
+-- .. and its text
 abbrev pub monthText : ℕ → ℕ → ℕ → Tables → List ℕ
 monthText month days nonzone t = fileText monthForm (contentsOf month days nonzone t)
 

@@ -8,8 +8,8 @@ ghost use Rattle.text.specs.Lines.{lineText};
 ghost use Rattle.text.specs.Places.{Put, Sized};
 ghost use Rattle.monthfile.specs.Form.{monthForm};
 ghost use Rattle.monthfile.specs.Reading.{rowsIn};
-ghost use Rattle.monthfile.specs.Writing.{rowsText, headsText, tablesText, fileText};
-ghost use Rattle.monthfile.specs.Calls.{contentsOf, allRows};
+ghost use Rattle.monthfile.specs.Writing.{rowsText, headsText, tablesText};
+ghost use Rattle.monthfile.specs.Calls.{allRows, monthText};
 use crate::keys;
 use crate::row;
 
@@ -151,7 +151,7 @@ pub fn text_size(
     reservations: &[u64],
     cap: usize,
 ) -> usize
-    ensures { λ r. ⌜ Sized 0 (fileText monthForm (contentsOf month days nonzone (tablesOf (now (zones .entry)) (now (owners .entry)) (now (units .entry)) (now (accounts .entry)) (now (loads .entry)) (now (reservations .entry))))) cap r ⌝ }
+    ensures { λ r. ⌜ Sized 0 (monthText month days nonzone (tablesOf (now (zones .entry)) (now (owners .entry)) (now (units .entry)) (now (accounts .entry)) (now (loads .entry)) (now (reservations .entry)))) cap r ⌝ }
 {
     let heads = heads_size(month, days, nonzone, cap);
     let rows = tables_size(
@@ -184,8 +184,8 @@ pub fn put_text(
     reservations: &[u64],
     out: &mut [u8],
 ) -> usize
-    requires { ⌜ 0 + length (fileText monthForm (contentsOf month days nonzone (tablesOf (now zones) (now owners) (now units) (now accounts) (now loads) (now reservations)))) ≤ length (now out) ⌝ }
-    ensures { λ r. ⌜ Put (now (out .entry)) 0 (fileText monthForm (contentsOf month days nonzone (tablesOf (now (zones .entry)) (now (owners .entry)) (now (units .entry)) (now (accounts .entry)) (now (loads .entry)) (now (reservations .entry))))) r (now (out .exit)) ⌝ }
+    requires { ⌜ 0 + length (monthText month days nonzone (tablesOf (now zones) (now owners) (now units) (now accounts) (now loads) (now reservations))) ≤ length (now out) ⌝ }
+    ensures { λ r. ⌜ Put (now (out .entry)) 0 (monthText month days nonzone (tablesOf (now (zones .entry)) (now (owners .entry)) (now (units .entry)) (now (accounts .entry)) (now (loads .entry)) (now (reservations .entry)))) r (now (out .exit)) ⌝ }
 {
     let heads = put_heads(month, days, nonzone, out);
     let rows = put_tables(
