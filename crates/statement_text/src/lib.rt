@@ -11,8 +11,8 @@ use answer::ACCEPTED;
 use answer::Answer;
 
 mod figures;
+mod joined;
 mod lines;
-mod rows;
 
 // The most bytes that a month file may have.
 pub const MOST_BYTES: usize = 32_768;
