@@ -1,11 +1,11 @@
 // Loops over a column of words.
 ghost use mathlib.Core.Path.{_≡_};
 ghost use Prim.Native.Nat.{ℕ, _+_, _≤_, _<_, _^_};
-ghost use lib.Dec.{eqb};
 ghost use lib.ListN.{length};
-ghost use Rattle.lists.specs.Sums.{at, when};
+ghost use Rattle.lists.specs.Sums.{at};
 ghost use Rattle.lists.specs.Entries.{put};
 ghost use Rattle.groups.specs.Steps.{Kept};
+use lists::when_same;
 
 // Adds each amount to its word of the column.
 pub fn add(amounts: &[u64], column: &mut [u64])
@@ -32,16 +32,6 @@ pub fn store(amounts: &[u64], column: &mut [u64])
     }
 }
 
-// A weight where its group is the one asked for, else 0.
-fn weight_in(weight: u64, its: u64, group: u64) -> u64
-    ensures { λ r. ⌜ r ≡ when (eqb its group) weight ⌝ }
-{
-    if its == group {
-        return weight;
-    }
-    0
-}
-
 // Writes the weights of a group's members, and 0 for all others, to the first words of the column.
 pub fn keep(weights: &[u64], groups: &[u64], group: u64, column: &mut [u64])
     requires { ⌜ (length (now weights) ≡ length (now groups)) × (length (now weights) ≤ length (now column)) ⌝ }
@@ -49,7 +39,8 @@ pub fn keep(weights: &[u64], groups: &[u64], group: u64, column: &mut [u64])
 {
     let mut i = 0;
     while i < weights.len() {
-        column[i] = weight_in(weights[i], groups[i], group);
+        let its = groups[i];
+        column[i] = when_same(its, group, weights[i]);
         i += 1;
     }
 }

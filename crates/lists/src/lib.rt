@@ -1,8 +1,9 @@
-// What every crate shares: a sum that never wraps, and for the proofs sums, counts and ranks over positions, and lists made
+// What every crate shares: a sum that never wraps, a number under a condition, and for the proofs sums, counts and ranks over positions, and lists made
 // entry by entry. `specs/` has the definitions and `proofs/` their laws.
 ghost use mathlib.Core.Path.{_≡_};
 ghost use Prim.Native.Nat.{min};
-ghost use Rattle.lists.specs.Sums.{total};
+ghost use lib.Dec.{eqb};
+ghost use Rattle.lists.specs.Sums.{total, when};
 
 // All numbers added up, or the cap where they add up to more.
 pub fn sum_capped(numbers: &[u64], cap: u64) -> u64
@@ -18,4 +19,14 @@ pub fn sum_capped(numbers: &[u64], cap: u64) -> u64
         i += 1;
     }
     sum
+}
+
+// A number where two others are the same, else 0.
+pub fn when_same(its: u64, wanted: u64, x: u64) -> u64
+    ensures { λ r. ⌜ r ≡ when (eqb its wanted) x ⌝ }
+{
+    if its == wanted {
+        return x;
+    }
+    0
 }

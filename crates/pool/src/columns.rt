@@ -1,25 +1,15 @@
 // Loops over a column of a table: copied, and added up for each of a table's numbers.
 ghost use mathlib.Core.Path.{_≡_};
 ghost use Prim.Native.Nat.{_≤_, _<_};
-ghost use lib.Dec.{eqb};
 ghost use lib.ListN.{length};
-ghost use Rattle.lists.specs.Sums.{when, sumWhere, at};
+ghost use Rattle.lists.specs.Sums.{sumWhere, at};
 ghost use Rattle.lists.specs.Entries.{put};
 ghost use Rattle.tables.specs.Shape.{width, rows};
 ghost use Rattle.tables.specs.Columns.{entry};
 ghost use Rattle.pool.specs.Steps.{Fit, Summable};
+use lists::when_same;
 use tables::Table;
 use tables::columns::entry;
-
-// A number where two others are the same, else 0.
-pub fn when_same(its: u64, wanted: u64, x: u64) -> u64
-    ensures { λ r. ⌜ r ≡ when (eqb its wanted) x ⌝ }
-{
-    if its == wanted {
-        return x;
-    }
-    0
-}
 
 // Writes a column of a table to the first words of `out`.
 pub fn copy(table: Table, column: usize, words: &[u64], out: &mut [u64])

@@ -13,6 +13,10 @@ use crate::columns;
 use answer::Answer;
 use answer::DIVISIONS;
 use tables::Table;
+use tables::columns::ACCOUNT_ZONE;
+use tables::columns::OWNER_REQUIREMENT;
+use tables::columns::OWNER_ZONE;
+use tables::columns::ZONE_NUMBER;
 
 // The network divisions in turn: each zone's pot among its owners, and the non-zone pot among all, written to columns of zeros.
 fn divide(
@@ -58,19 +62,19 @@ fn credit_in(
 {
     let zonecount = tables::rows_in(Table::Zones, zones.len());
     let ownercount = tables::rows_in(Table::Owners, owners.len());
-    columns::copy(Table::Zones, 0, zones, numbers);
+    columns::copy(Table::Zones, ZONE_NUMBER, zones, numbers);
     columns::sums_in(
         Table::Accounts,
-        2,
+        ACCOUNT_ZONE,
         accounts,
         network,
         Table::Zones,
         zones,
         pots,
     );
-    columns::copy(Table::Owners, 2, owners, requirements);
-    columns::copy(Table::Owners, 1, owners, ownerzones);
-    let nonzone = columns::sum_in(Table::Accounts, 2, accounts, network, 0);
+    columns::copy(Table::Owners, OWNER_REQUIREMENT, owners, requirements);
+    columns::copy(Table::Owners, OWNER_ZONE, owners, ownerzones);
+    let nonzone = columns::sum_in(Table::Accounts, ACCOUNT_ZONE, accounts, network, 0);
     divide(
         &pots[..zonecount],
         &numbers[..zonecount],

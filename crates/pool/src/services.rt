@@ -14,12 +14,16 @@ ghost use Rattle.pool.specs.Services.{serviceOver, creditIn};
 ghost use Rattle.pool.specs.Steps.{unitsInput, Creditable, Credited, Usable, PartsFilled, ServiceSettled};
 use crate::columns;
 use answer::Answer;
+use lists::when_same;
 use month::Month;
 use tables::Table;
 use tables::columns::ACCOUNT_ZONE;
+use tables::columns::UNIT_OWNER;
 use tables::columns::UNIT_REQUIREMENT;
 use tables::columns::UNIT_RESERVE;
 use tables::columns::UNIT_SERVICE;
+use tables::columns::UNIT_ZONE;
+use tables::columns::ZONE_NUMBER;
 use tables::columns::entry;
 
 // The credit of a unit, where it is one of a service, else 0.
@@ -30,7 +34,7 @@ fn credit_of(service: u64, month: Month, units: &[u64], i: usize) -> u64
     let twelfth = month.twelfth(entry(Table::Units, UNIT_REQUIREMENT, units, i));
     let reserve = entry(Table::Units, UNIT_RESERVE, units, i);
     let credit = twelfth + reserve;
-    columns::when_same(entry(Table::Units, UNIT_SERVICE, units, i), service, credit)
+    when_same(entry(Table::Units, UNIT_SERVICE, units, i), service, credit)
 }
 
 // Writes each unit's credit in a service.
@@ -64,7 +68,7 @@ fn credit(
     fill_credits(service, month, units, unitcredits);
     columns::sums_in(
         Table::Units,
-        2,
+        UNIT_ZONE,
         units,
         unitcredits,
         Table::Zones,
@@ -73,7 +77,7 @@ fn credit(
     );
     columns::sums_in(
         Table::Units,
-        1,
+        UNIT_OWNER,
         units,
         unitcredits,
         Table::Owners,
@@ -102,7 +106,7 @@ fn fill_parts(accounts: &[u64], uses: &[u64], zoneparts: &mut [u64], nonzonepart
     while i < count {
         let zone = entry(Table::Accounts, ACCOUNT_ZONE, accounts, i);
         zoneparts[i] = zone_part(zone, uses[i]);
-        nonzoneparts[i] = columns::when_same(zone, 0, uses[i]);
+        nonzoneparts[i] = when_same(zone, 0, uses[i]);
         i += 1;
     }
 }
@@ -127,8 +131,8 @@ fn charge(
 {
     let zonecount = tables::rows_in(Table::Zones, zones.len());
     let count = tables::rows_in(Table::Accounts, accounts.len());
-    columns::copy(Table::Zones, 0, zones, numbers);
-    columns::copy(Table::Accounts, 2, accounts, accountzones);
+    columns::copy(Table::Zones, ZONE_NUMBER, zones, numbers);
+    columns::copy(Table::Accounts, ACCOUNT_ZONE, accounts, accountzones);
     fill_parts(accounts, uses, zoneparts, nonzoneparts);
     service::charge(
         &pots[..zonecount],

@@ -22,20 +22,20 @@ loop-holds c =
     stored-start (length (a .weights .now))
     (λ j. when (eqb (at (a .groups .now) j) (a .group)) (at (a .weights .now) j)) (a .column .now)
 
-mul-weight-in : tie.Need-mul-weight-in Inv-loop μ-loop
-mul-weight-in c = search needs
+mul-its : tie.Need-mul-its Inv-loop μ-loop
+mul-its c = search needs
 
-shared-slice-read-weight-in : tie.Need-shared-slice-read-weight-in Inv-loop μ-loop
-shared-slice-read-weight-in c = search needs
+shared-slice-read-its : tie.Need-shared-slice-read-its Inv-loop μ-loop
+shared-slice-read-its c = search needs
 
-mul-weight-in-2 : tie.Need-mul-weight-in-2 Inv-loop μ-loop
-mul-weight-in-2 c = search needs
+mul-when-same : tie.Need-mul-when-same Inv-loop μ-loop
+mul-when-same c = search needs
 
-shared-slice-read-weight-in-2 : tie.Need-shared-slice-read-weight-in-2 Inv-loop μ-loop
-shared-slice-read-weight-in-2 c = search needs
+shared-slice-read-when-same : tie.Need-shared-slice-read-when-same Inv-loop μ-loop
+shared-slice-read-when-same c = search needs
 
-weight-in-requires : tie.Need-weight-in-requires Inv-loop μ-loop
-weight-in-requires c κs = search needs
+when-same-requires : tie.Need-when-same-requires Inv-loop μ-loop
+when-same-requires c κs = search needs
 
 mul-column : tie.Need-mul-column Inv-loop μ-loop
 mul-column c = search needs
@@ -50,7 +50,7 @@ loop-less : tie.Need-loop-less Inv-loop μ-loop
 loop-less c = search needs
 
 loop-again : tie.Need-loop-again Inv-loop μ-loop
-loop-again c = stored-on (c .before .before .before .before .loop .inv) _ (search needs) (c .weight-in .ensures)
+loop-again c = stored-on (c .before .before .before .before .loop .inv) _ (search needs) (c .when-same .ensures)
 
 same-length : tie.Need-same-length Inv-loop μ-loop
 same-length c = stored-long (c .before .loop .inv)
@@ -65,11 +65,11 @@ keep-spec =
     Inv-loop
     μ-loop
     loop-holds
-    mul-weight-in
-    shared-slice-read-weight-in
-    mul-weight-in-2
-    shared-slice-read-weight-in-2
-    weight-in-requires
+    mul-its
+    shared-slice-read-its
+    mul-when-same
+    shared-slice-read-when-same
+    when-same-requires
     mul-column
     slice-write-column
     add-i

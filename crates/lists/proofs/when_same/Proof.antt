@@ -1,8 +1,8 @@
--- `pool::columns::when_same` meets its contract: the test decides.
+-- `lists::when_same` meets its contract: the test decides.
 -- Assumes nothing.
 use borrow.Author.Tests.{eq-eqb, ne-eqb}
-use Rattle.pool.proofs.columns.when_same.Statement.{statement}
-use Rattle.pool.proofs.columns.when_same.Tie as tie
+use Rattle.lists.proofs.when_same.Statement.{statement}
+use Rattle.lists.proofs.when_same.Tie as tie
 
 returns : tie.Need-returns
 returns c = simp (eq-eqb _ _ (c .if1 .taken))
