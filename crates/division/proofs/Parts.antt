@@ -2,10 +2,10 @@
 -- remainder above zero; exactly as many positions as there are leftover cents get one.
 -- Assumes nothing.
 use mathlib.Core.Path.{_≡_, refl, sym, ap, _∙_}
-use mathlib.Core.Logic.{_⊎_, ⊎-elim}
+use mathlib.Core.Logic.{⊎-elim}
 use mathlib.Core.Bool.{Bool, true, false}
 use mathlib.Core.List.{List}
-use Prim.Native.Nat.{ℕ, _+_, _-_, _*_, _≤_, _<_}
+use Prim.Native.Nat.{ℕ, _+_, _*_, _≤_, _<_}
 use native.Mathlib.Nat.{le-trans, le-of-eq, div-add-mod, mod-lt, le-of-mul-le-mul-left, min-eq-left, mul-comm}
 use native.Mathlib.Omega.{arith}
 use lib.Dec.{ltb}

@@ -2,7 +2,7 @@
 use crate::quotients;
 use crate::quotients::Part;
 ghost use mathlib.Core.Path.{_≡_};
-ghost use Prim.Native.Nat.{ℕ, _*_, _/_, _^_, _≤_, _<_, _+_, _-_};
+ghost use Prim.Native.Nat.{ℕ, _*_, _/_, _^_, _≤_, _<_, _+_};
 ghost use lib.ListN.{length};
 ghost use Rattle.lists.specs.Sums.{at, total};
 ghost use Rattle.lists.specs.Entries.{put};

@@ -1,7 +1,7 @@
 // The whole part and the remainder of pot times weight over the sum of the weights, by doubling: one binary digit of the pot
 // at a time, so that nothing needs more than 64 bits.
 ghost use mathlib.Core.Path.{_≡_};
-ghost use Prim.Native.Nat.{_+_, _*_, _/_, _%_, _≤_, _<_};
+ghost use Prim.Native.Nat.{_*_, _/_, _≤_, _<_};
 ghost use Rattle.division.specs.Limits.{potLimit, weightLimit};
 ghost use Rattle.division.specs.Steps.{Steady, Stepped, Settled, Quotient, Quotients};
 

@@ -14,7 +14,6 @@ use Rattle.service.specs.Turn as turn
 use Rattle.month.specs.Months.{isMonth, through, twelfth}
 use Rattle.month.specs.Quantities as month
 use Rattle.rows.specs.Rows as rows
-use Rattle.tables.specs.Counts as counts
 use Rattle.judgement.specs.Judgement as judgement
 use Rattle.text.specs.Bytes.{bytes}
 use Rattle.text.specs.Numbers.{isDigit, digitsOn, number, digits, decimal}

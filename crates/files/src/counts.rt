@@ -108,7 +108,17 @@ fn zones() {
 
 fn owners() {
     zeros(b"64 owners", 0, 192, 0, 0, 0, 0, 794, b"end=64\n");
-    zeros(b"65 owners", 0, 192, 0, 0, 0, 0, 794, b"owner=0,0,0\nend=65\n");
+    zeros(
+        b"65 owners",
+        0,
+        192,
+        0,
+        0,
+        0,
+        0,
+        794,
+        b"owner=0,0,0\nend=65\n",
+    );
     zeros(
         b"65 owners, the last with a needless zero",
         0,
@@ -124,7 +134,17 @@ fn owners() {
 
 fn units() {
     zeros(b"64 units", 0, 0, 384, 0, 0, 0, 1_114, b"end=64\n");
-    zeros(b"65 units", 0, 0, 384, 0, 0, 0, 1_114, b"unit=0,0,0,0,0,0\nend=65\n");
+    zeros(
+        b"65 units",
+        0,
+        0,
+        384,
+        0,
+        0,
+        0,
+        1_114,
+        b"unit=0,0,0,0,0,0\nend=65\n",
+    );
     zeros(
         b"65 units, the last with a field too few",
         0,
@@ -140,7 +160,17 @@ fn units() {
 
 fn accounts() {
     zeros(b"32 accounts", 0, 0, 0, 96, 0, 0, 474, b"end=32\n");
-    zeros(b"33 accounts", 0, 0, 0, 96, 0, 0, 474, b"account=0,0,0\nend=33\n");
+    zeros(
+        b"33 accounts",
+        0,
+        0,
+        0,
+        96,
+        0,
+        0,
+        474,
+        b"account=0,0,0\nend=33\n",
+    );
     zeros(
         b"33 accounts, the last with a field too many",
         0,
@@ -156,7 +186,17 @@ fn accounts() {
 
 fn reservations() {
     zeros(b"32 reservations", 0, 0, 0, 0, 0, 96, 346, b"end=32\n");
-    zeros(b"33 reservations", 0, 0, 0, 0, 0, 96, 346, b"ptp=0,0,0\nend=33\n");
+    zeros(
+        b"33 reservations",
+        0,
+        0,
+        0,
+        0,
+        0,
+        96,
+        346,
+        b"ptp=0,0,0\nend=33\n",
+    );
     zeros(
         b"33 reservations, the last with a sign",
         0,
@@ -171,7 +211,17 @@ fn reservations() {
 }
 
 fn full() {
-    zeros(b"every table full", 32, 192, 384, 96, 2_976, 96, 13_706, b"end=1200\n");
+    zeros(
+        b"every table full",
+        32,
+        192,
+        384,
+        96,
+        2_976,
+        96,
+        13_706,
+        b"end=1200\n",
+    );
 }
 
 pub(crate) fn run() {
@@ -179,7 +229,17 @@ pub(crate) fn run() {
     owners();
     units();
     accounts();
-    zeros(b"993 loads", 0, 0, 0, 0, 2_976, 0, 10_938, b"load=0,0,0\nend=993\n");
+    zeros(
+        b"993 loads",
+        0,
+        0,
+        0,
+        0,
+        2_976,
+        0,
+        10_938,
+        b"load=0,0,0\nend=993\n",
+    );
     reservations();
     full();
 }

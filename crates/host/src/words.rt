@@ -2,7 +2,6 @@
 ghost use mathlib.Core.Path.{_≡_};
 ghost use Prim.Native.Nat.{_+_, _*_, _/_, _%_, _≤_, _<_, min};
 ghost use lib.ListN.{length};
-ghost use Rattle.lists.specs.Sums.{at};
 ghost use Rattle.lists.specs.Entries.{put};
 ghost use Rattle.host.specs.Words.{wordBytes, isUneven, numberFrom};
 ghost use Rattle.host.specs.Stores.{stored, numberAt, byteAt};

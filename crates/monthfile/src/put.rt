@@ -1,7 +1,7 @@
 // The text of a month, measured and written: the first lines, the tables, the last line.
 ghost use mathlib.Core.Path.{_≡_};
 ghost use mathlib.Core.List.{[], _∷_};
-ghost use Prim.Native.Nat.{_+_, _/_, _≤_, _<_, _^_};
+ghost use Prim.Native.Nat.{_+_, _/_, _≤_, _<_};
 ghost use lib.ListN.{length};
 ghost use Rattle.tables.specs.Shape.{tablesOf};
 ghost use Rattle.text.specs.Lines.{lineText};

@@ -1,20 +1,19 @@
 -- A line's text reads as its fields, and what reads as fields is their text. Field by field, from the laws of numbers.
 -- Assumes nothing.
 use mathlib.Core.Path.{_≡_, refl, sym, ap, ap₂, _∙_, subst}
-use mathlib.Core.Logic.{_⊎_, inl, inr, ⊎-elim, _≢_}
-use mathlib.Core.Bool.{Bool, true, false, cond, true≢false}
+use mathlib.Core.Logic.{⊎-elim, _≢_}
+use mathlib.Core.Bool.{true, false, cond, true≢false}
 use mathlib.Core.List.{List, [], _∷_, _++_, append-assoc}
-use Prim.Native.Nat.{ℕ, zero, suc, _+_, _≤_, _<_}
-use native.Mathlib.Omega.{arith}
+use Prim.Native.Nat.{ℕ, zero, suc, _<_}
 use lib.Dec.{eqb, lit<}
-use lib.ListN.{length, getD}
+use lib.ListN.{length}
 use borrow.Author.Tests.{eq-eqb, ne-eqb, eqb-true, eqb-false}
 use Rattle.lists.specs.Sums.{at}
 use Rattle.lists.proofs.Ranks.{true-or-false}
 use Rattle.text.specs.Numbers.{Found, found, missing, isDigit, bound, Below, number, decimal}
 use Rattle.text.specs.Lines.{comma, equals, separator, behind, past, apart, field, fields, line, fieldsText, lineText}
 use Rattle.text.proofs.Below.{below-none, below-cons}
-use Rattle.text.proofs.Numbers.{never, digit-low, digit-high, number-decimal, decimal-number, Decimal}
+use Rattle.text.proofs.Numbers.{never, digit-low, number-decimal, decimal-number, Decimal}
 
 -- bytes that stand first are read past, and nothing else is
 pub past-none : {A : Type 0} (go : List ℕ → Found A) (s : List ℕ) → past [] go s ≡ go s

@@ -1,22 +1,22 @@
 -- Readings at an offset: what a byte more, a stop and the end of the text mean for the rest of what is to be read.
 -- Assumes nothing.
-use mathlib.Core.Path.{_≡_, refl, sym, ap, ap₂, _∙_, subst}
+use mathlib.Core.Path.{_≡_, refl, sym, ap, _∙_, subst}
 use mathlib.Core.Logic.{_≢_}
 use mathlib.Core.Bool.{true, false}
-use mathlib.Core.List.{List, [], _∷_, _++_, append-assoc, append-nil}
-use Prim.Native.Nat.{ℕ, zero, suc, _+_, _-_, _*_, _≤_, _<_}
+use mathlib.Core.List.{List, [], _∷_, _++_, append-assoc}
+use Prim.Native.Nat.{ℕ, suc, _+_, _-_, _*_, _≤_, _<_}
 use native.Mathlib.Numerals.{add-one}
 use native.Mathlib.Omega.{arith}
-use lib.ListN.{length, getD, set, take, drop, drop-of-length-le, length-drop, length-append}
-use lib.Seq.{drop-cons, drop-drop, drop-at, length-take-le}
+use lib.ListN.{length, set, drop, drop-of-length-le, length-drop, length-append}
+use lib.Seq.{drop-cons, drop-drop, drop-at}
 use Rattle.lists.specs.Sums.{at}
 use Rattle.text.specs.declared.number.Number.{Number}
 use Rattle.text.specs.Numbers.{Found, found, missing, zeroByte, digitOf, isDigit, bound, digitsOn, number}
 use Rattle.text.specs.Lines.{equals, separator, behind, past, field, fields, line}
-use Rattle.text.specs.Places.{NumberAt, LineAt, KeyAt, Taken, fieldsOf, restOf, stored}
+use Rattle.text.specs.Places.{NumberAt, LineAt, KeyAt, fieldsOf, restOf, stored}
 use Rattle.text.proofs.Lines.{past-none, past-end, past-same, past-other, past-back, Behind, field-of-missing, field-of-found, withFirst, fields-none, fields-on, fields-stop}
-use Rattle.text.proofs.Stores.{stored-none, stored-first}
-use Rattle.text.proofs.Numbers.{never, on-digit, on-big, on-other, on-end, number-zero, number-first, number-other, number-end}
+use Rattle.text.proofs.Stores.{stored-first}
+use Rattle.text.proofs.Numbers.{on-digit, on-big, on-other, on-end, number-zero, number-first, number-other, number-end}
 
 -- the text from an offset on: a byte and the text behind it, or nothing
 pub drop-next : (s : List ℕ) (i : ℕ) → i < length s → drop i s ≡ at s i ∷ drop (i + 1) s

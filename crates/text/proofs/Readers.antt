@@ -11,7 +11,7 @@ use lib.ListN.{length, drop, length-drop, length-append}
 use borrow.Author.Tests.{eqb-true, eqb-false}
 use denote.Ref.{RefT, now}
 use Rattle.text.specs.declared.reader.Reader.{Reader}
-use Rattle.text.specs.Numbers.{Found, found, missing}
+use Rattle.text.specs.Numbers.{Found, found}
 use Rattle.text.specs.Lines.{line, lineText, fieldsText}
 use Rattle.text.specs.Places.{LineAt, EndAt}
 use Rattle.text.specs.Readers.{Stepped, reachedOf}

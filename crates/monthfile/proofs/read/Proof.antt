@@ -1,4 +1,3 @@
-use Prim.Native.Nat.{_-_}
 use Rattle.tables.specs.Shape.{tablesOf}
 use Rattle.monthfile.proofs.Rooms.{rooms-in-turn, read-no-room, read-refused, read-ready, read-filled}
 use borrow.Author.Needs.{needs}

@@ -1,4 +1,3 @@
-use Prim.Native.Nat.{_-_}
 use Rattle.tables.specs.Shape.{Tables, tablesOf}
 use Rattle.monthfile.proofs.Pieces.{counts-in-turn, write-counts, write-short, write-fits, write-fine}
 use borrow.Author.Needs.{needs}

@@ -1,5 +1,5 @@
 use mathlib.Core.Path.{sym}
-use Prim.Native.Nat.{suc, _-_}
+use Prim.Native.Nat.{suc}
 use lib.ListN.{drop}
 use mathlib.Core.Path.{subst}
 use Rattle.tables.specs.Shape.{width, limit}

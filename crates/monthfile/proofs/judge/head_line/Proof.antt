@@ -1,5 +1,4 @@
 use mathlib.Core.Path.{sym, ap}
-use Prim.Native.Nat.{_-_}
 use lib.ListN.{drop}
 use mathlib.Core.Path.{subst}
 use Rattle.text.specs.Lines.{line}

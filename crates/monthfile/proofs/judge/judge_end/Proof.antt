@@ -1,5 +1,4 @@
 use mathlib.Core.Path.{refl, ap, _∙_}
-use Prim.Native.Nat.{_-_}
 use mathlib.Core.List.{[], _∷_}
 use Rattle.answer.specs.declared.Answer.{Answer}
 use Rattle.answer.proofs.Turns.{refuse-number}

@@ -1,5 +1,4 @@
 use mathlib.Core.Path.{refl}
-use Prim.Native.Nat.{_-_}
 use mathlib.Core.List.{[], _∷_}
 use Rattle.monthfile.proofs.Judging.{judged-heads, judged-tables, judged-end, judged-fine}
 use borrow.Author.Needs.{needs}

@@ -1,4 +1,3 @@
-use Prim.Native.Nat.{_-_}
 use Rattle.monthfile.proofs.LineWalks.{reservations-at}
 use borrow.Author.Needs.{needs}
 use Rattle.monthfile.proofs.judge.table_of.Statement.{statement}

@@ -1,5 +1,5 @@
 use mathlib.Core.Path.{sym, _∙_}
-use Prim.Native.Nat.{_≤_, _+_, _-_}
+use Prim.Native.Nat.{_≤_, _+_}
 use mathlib.Core.Path.{subst}
 use mathlib.Core.List.{[], _∷_, _++_}
 use Rattle.tables.specs.Shape.{tablesOf}

@@ -1,4 +1,3 @@
-use Prim.Native.Nat.{_-_}
 use native.Mathlib.Omega.{arith}
 use Rattle.tables.specs.Shape.{tablesOf}
 use Rattle.monthfile.proofs.Pieces.{all-rows}

@@ -1,5 +1,5 @@
 use mathlib.Core.Path.{sym, ap}
-use Prim.Native.Nat.{_*_, _-_}
+use Prim.Native.Nat.{_*_}
 use Rattle.tables.specs.Shape.{width, limit}
 use borrow.Author.Needs.{needs}
 use Rattle.monthfile.proofs.room.full_size.Statement.{statement}

@@ -1,17 +1,9 @@
-use mathlib.Core.Path.{_≡_, refl, sym, ap, _∙_}
-use mathlib.Core.Logic.{⊎-elim}
-use Prim.Native.Nat.{ℕ, zero, suc, _≤_, _<_, _+_, _*_, _/_, _%_, _-_, _^_, min}
-use native.Mathlib.Numerals.{add-one}
-use native.Mathlib.Omega.{arith}
+use mathlib.Core.Path.{_∙_}
 use mathlib.Core.Path.{ap₂}
 use Rattle.answer.specs.Turns.{_then_}
 use borrow.Author.Needs.{needs}
 use Rattle.monthfile.proofs.room.judge_room.Statement.{statement}
 use Rattle.monthfile.proofs.room.judge_room.Tie as tie
-use Rattle.monthfile.proofs.room.judge_room.Reads as reads
-use Rattle.monthfile.proofs.room.judge_room.Lts as lts
-use Rattle.answer.proofs.in_turn.Reads as in-turn-reads
-use Rattle.monthfile.proofs.room.room_of.Reads as room-of-reads
 
 -- src/room.rt:39:33
 room-of-requires : tie.Need-room-of-requires

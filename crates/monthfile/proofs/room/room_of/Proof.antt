@@ -1,5 +1,5 @@
 use mathlib.Core.Path.{ap, _∙_}
-use Prim.Native.Nat.{_≤_, _<_, _*_, _-_}
+use Prim.Native.Nat.{_≤_, _<_, _*_}
 use mathlib.Core.Path.{subst}
 use Rattle.answer.specs.Turns.{refuse}
 use Rattle.tables.specs.Shape.{number, width, limit}

@@ -1,16 +1,8 @@
-use mathlib.Core.Path.{_≡_, refl, sym, ap, _∙_}
-use mathlib.Core.Logic.{⊎-elim}
-use Prim.Native.Nat.{ℕ, zero, suc, _≤_, _<_, _+_, _*_, _/_, _%_, _-_, _^_, min}
-use native.Mathlib.Numerals.{add-one}
-use native.Mathlib.Omega.{arith}
+use mathlib.Core.Path.{sym, _∙_}
 use Rattle.text.proofs.Places.{field-none, field-cut, field-other, field-there}
 use borrow.Author.Needs.{needs}
 use Rattle.text.proofs.line.field_at.Statement.{statement}
 use Rattle.text.proofs.line.field_at.Tie as tie
-use Rattle.text.proofs.line.field_at.Reads as reads
-use Rattle.text.proofs.line.field_at.Lts as lts
-use Rattle.text.proofs.line.separator.Reads as separator-reads
-use Rattle.text.proofs.number.number_at.Reads as number-at-reads
 
 -- src/line.rt:30:9
 number-at-requires : tie.Need-number-at-requires

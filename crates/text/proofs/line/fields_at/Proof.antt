@@ -1,8 +1,4 @@
-use mathlib.Core.Path.{_≡_, refl, sym, ap, _∙_}
-use mathlib.Core.Logic.{⊎-elim}
-use Prim.Native.Nat.{ℕ, zero, suc, _≤_, _<_, _+_, _*_, _/_, _%_, _-_, _^_, min}
-use native.Mathlib.Numerals.{add-one}
-use native.Mathlib.Omega.{arith}
+use Prim.Native.Nat.{_≤_, _<_}
 use native.Mathlib.Nat.{pos-of-ne-zero}
 use lib.ListN.{length, drop}
 use Rattle.text.specs.Lines.{fields}
@@ -10,9 +6,6 @@ use Rattle.text.proofs.Places.{Partly, partly-start, fields-missing, fi
 use borrow.Author.Needs.{needs}
 use Rattle.text.proofs.line.fields_at.Statement.{statement}
 use Rattle.text.proofs.line.fields_at.Tie as tie
-use Rattle.text.proofs.line.fields_at.Reads as reads
-use Rattle.text.proofs.line.fields_at.Lts as lts
-use Rattle.text.proofs.line.field_at.Reads as field-at-reads
 
 abbrev Inv-loop : tie.InvT-loop
 Inv-loop text at width i₀ left₀ i left =

@@ -1,7 +1,5 @@
-use mathlib.Core.Path.{_≡_, refl, sym, ap, _∙_}
-use mathlib.Core.Logic.{⊎-elim}
-use Prim.Native.Nat.{ℕ, zero, suc, _≤_, _<_, _+_, _*_, _/_, _%_, _-_, _^_, min}
-use native.Mathlib.Numerals.{add-one}
+use mathlib.Core.Path.{_≡_, refl, ap, _∙_}
+use Prim.Native.Nat.{_≤_, _+_, _-_, min}
 use native.Mathlib.Omega.{arith}
 use lib.ListN.{length, take, drop}
 use Rattle.lists.specs.Sums.{at}
@@ -11,10 +9,6 @@ use Rattle.text.proofs.Pieces.{take-none, text-none, length-next}
 use borrow.Author.Needs.{needs}
 use Rattle.text.proofs.line.fields_size.Statement.{statement}
 use Rattle.text.proofs.line.fields_size.Tie as tie
-use Rattle.text.proofs.line.fields_size.Reads as reads
-use Rattle.text.proofs.line.fields_size.Lts as lts
-use Rattle.text.proofs.number.add_capped.Reads as add-capped-reads
-use Rattle.text.proofs.number.number_size.Reads as number-size-reads
 
 abbrev Inv-loop : tie.InvT-loop
 Inv-loop words from width before cap size₀ left₀ next₀ size left next =

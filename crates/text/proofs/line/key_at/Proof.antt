@@ -1,7 +1,5 @@
-use mathlib.Core.Path.{_≡_, refl, sym, ap, _∙_}
-use mathlib.Core.Logic.{⊎-elim}
-use Prim.Native.Nat.{ℕ, zero, suc, _≤_, _<_, _+_, _*_, _/_, _%_, _-_, _^_, min}
-use native.Mathlib.Numerals.{add-one}
+use mathlib.Core.Path.{_≡_, refl}
+use Prim.Native.Nat.{ℕ, _≤_, _-_}
 use native.Mathlib.Omega.{arith}
 use lib.ListN.{length, drop}
 use mathlib.Core.List.{List, [], _∷_, _++_}
@@ -11,8 +9,6 @@ use Rattle.text.proofs.Places.{key-next, key-short, key-other, key-cut,
 use borrow.Author.Needs.{needs}
 use Rattle.text.proofs.line.key_at.Statement.{statement}
 use Rattle.text.proofs.line.key_at.Tie as tie
-use Rattle.text.proofs.line.key_at.Reads as reads
-use Rattle.text.proofs.line.key_at.Lts as lts
 
 abbrev Inv-loop : tie.InvT-loop
 Inv-loop text at key i₀ k₀ i k =

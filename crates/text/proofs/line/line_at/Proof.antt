@@ -1,17 +1,8 @@
-use mathlib.Core.Path.{_≡_, refl, sym, ap, _∙_}
-use mathlib.Core.Logic.{⊎-elim}
-use Prim.Native.Nat.{ℕ, zero, suc, _≤_, _<_, _+_, _*_, _/_, _%_, _-_, _^_, min}
-use native.Mathlib.Numerals.{add-one}
-use native.Mathlib.Omega.{arith}
 use native.Mathlib.Nat.{pos-of-ne-zero}
 use Rattle.text.proofs.Places.{line-unkeyed, line-keyed}
 use borrow.Author.Needs.{needs}
 use Rattle.text.proofs.line.line_at.Statement.{statement}
 use Rattle.text.proofs.line.line_at.Tie as tie
-use Rattle.text.proofs.line.line_at.Reads as reads
-use Rattle.text.proofs.line.line_at.Lts as lts
-use Rattle.text.proofs.line.fields_at.Reads as fields-at-reads
-use Rattle.text.proofs.line.key_at.Reads as key-at-reads
 
 -- src/line.rt:96:9
 key-at-requires : tie.Need-key-at-requires

@@ -1,17 +1,9 @@
-use mathlib.Core.Path.{_≡_, refl, sym, ap, _∙_}
-use mathlib.Core.Logic.{⊎-elim}
-use Prim.Native.Nat.{ℕ, zero, suc, _≤_, _<_, _+_, _*_, _/_, _%_, _-_, _^_, min}
-use native.Mathlib.Numerals.{add-one}
 use native.Mathlib.Omega.{arith}
-use lib.ListN.{length, take, drop}
+use lib.ListN.{take, drop}
 use Rattle.text.proofs.Pieces.{length-key}
 use borrow.Author.Needs.{needs}
 use Rattle.text.proofs.line.line_size.Statement.{statement}
 use Rattle.text.proofs.line.line_size.Tie as tie
-use Rattle.text.proofs.line.line_size.Reads as reads
-use Rattle.text.proofs.line.line_size.Lts as lts
-use Rattle.text.proofs.line.fields_size.Reads as fields-size-reads
-use Rattle.text.proofs.number.add_capped.Reads as add-capped-reads
 
 -- src/line.rt:150:43
 add-add-capped : tie.Need-add-add-capped

@@ -1,7 +1,5 @@
 use mathlib.Core.Path.{_≡_, refl, sym, ap, _∙_}
-use mathlib.Core.Logic.{⊎-elim}
-use Prim.Native.Nat.{ℕ, zero, suc, _≤_, _<_, _+_, _*_, _/_, _%_, _-_, _^_, min}
-use native.Mathlib.Numerals.{add-one}
+use Prim.Native.Nat.{_≤_, _+_, _-_}
 use native.Mathlib.Omega.{arith}
 use lib.ListN.{length, drop, length-set}
 use Rattle.text.specs.Places.{stored}
@@ -10,8 +8,6 @@ use Rattle.text.proofs.Stores.{stored-none, stored-first}
 use borrow.Author.Needs.{needs}
 use Rattle.text.proofs.line.put_bytes.Statement.{statement}
 use Rattle.text.proofs.line.put_bytes.Tie as tie
-use Rattle.text.proofs.line.put_bytes.Reads as reads
-use Rattle.text.proofs.line.put_bytes.Lts as lts
 
 abbrev Inv-loop : tie.InvT-loop
 Inv-loop bytes out₀ at i₀ k₀ out i k =

@@ -1,7 +1,5 @@
 use mathlib.Core.Path.{_≡_, refl, sym, ap, _∙_}
-use mathlib.Core.Logic.{⊎-elim}
-use Prim.Native.Nat.{ℕ, zero, suc, _≤_, _<_, _+_, _*_, _/_, _%_, _-_, _^_, min}
-use native.Mathlib.Numerals.{add-one}
+use Prim.Native.Nat.{_≤_, _+_}
 use native.Mathlib.Omega.{arith}
 use mathlib.Core.List.{[]}
 use lib.ListN.{length, take, drop, length-set}
@@ -12,10 +10,6 @@ use Rattle.text.proofs.Pieces.{take-none, text-none, length-next, put-n
 use borrow.Author.Needs.{needs}
 use Rattle.text.proofs.line.put_fields.Statement.{statement}
 use Rattle.text.proofs.line.put_fields.Tie as tie
-use Rattle.text.proofs.line.put_fields.Reads as reads
-use Rattle.text.proofs.line.put_fields.Lts as lts
-use Rattle.text.proofs.line.separator.Reads as separator-reads
-use Rattle.text.proofs.number.put_number.Reads as put-number-reads
 
 abbrev Inv-loop : tie.InvT-loop
 Inv-loop words from width out₀ at i₀ left₀ next₀ out i left next =

@@ -1,17 +1,9 @@
-use mathlib.Core.Path.{_≡_, refl, sym, ap, _∙_}
-use mathlib.Core.Logic.{⊎-elim}
-use Prim.Native.Nat.{ℕ, zero, suc, _≤_, _<_, _+_, _*_, _/_, _%_, _-_, _^_, min}
-use native.Mathlib.Numerals.{add-one}
+use mathlib.Core.Path.{_∙_}
 use native.Mathlib.Omega.{arith}
-use lib.ListN.{length, take, drop, length-set}
+use lib.ListN.{take, drop, length-set}
 use Rattle.text.proofs.Pieces.{length-key, put-keyed}
-use borrow.Author.Needs.{needs}
 use Rattle.text.proofs.line.put_line.Statement.{statement}
 use Rattle.text.proofs.line.put_line.Tie as tie
-use Rattle.text.proofs.line.put_line.Reads as reads
-use Rattle.text.proofs.line.put_line.Lts as lts
-use Rattle.text.proofs.line.put_bytes.Reads as put-bytes-reads
-use Rattle.text.proofs.line.put_fields.Reads as put-fields-reads
 
 -- src/line.rt:192:9
 put-bytes-requires : tie.Need-put-bytes-requires

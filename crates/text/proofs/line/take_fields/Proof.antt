@@ -1,7 +1,5 @@
 use mathlib.Core.Path.{_≡_, refl, sym, ap, _∙_}
-use mathlib.Core.Logic.{⊎-elim}
-use Prim.Native.Nat.{ℕ, zero, suc, _≤_, _<_, _+_, _*_, _/_, _%_, _-_, _^_, min}
-use native.Mathlib.Numerals.{add-one}
+use Prim.Native.Nat.{_≤_, _+_}
 use native.Mathlib.Omega.{arith}
 use mathlib.Core.Logic.{_≢_}
 use mathlib.Core.List.{[]}
@@ -15,9 +13,6 @@ use Rattle.text.proofs.Places.{taken-there, taken-rest, taken-stored}
 use borrow.Author.Needs.{needs}
 use Rattle.text.proofs.line.take_fields.Statement.{statement}
 use Rattle.text.proofs.line.take_fields.Tie as tie
-use Rattle.text.proofs.line.take_fields.Reads as reads
-use Rattle.text.proofs.line.take_fields.Lts as lts
-use Rattle.text.proofs.line.field_at.Reads as field-at-reads
 
 abbrev Inv-loop : tie.InvT-loop
 Inv-loop text at width words₀ place i₀ left₀ store₀ words i left store =

@@ -1,16 +1,9 @@
-use mathlib.Core.Path.{_≡_, refl, sym, ap, _∙_}
-use mathlib.Core.Logic.{⊎-elim}
-use Prim.Native.Nat.{ℕ, zero, suc, _≤_, _<_, _+_, _*_, _/_, _%_, _-_, _^_, min}
-use native.Mathlib.Numerals.{add-one}
+use mathlib.Core.Path.{sym, ap, _∙_}
 use native.Mathlib.Omega.{arith}
 use Rattle.text.specs.Places.{restOf, fieldsOf, stored}
 use Rattle.text.proofs.Places.{keyed}
-use borrow.Author.Needs.{needs}
 use Rattle.text.proofs.line.take_line.Statement.{statement}
 use Rattle.text.proofs.line.take_line.Tie as tie
-use Rattle.text.proofs.line.take_line.Reads as reads
-use Rattle.text.proofs.line.take_line.Lts as lts
-use Rattle.text.proofs.line.take_fields.Reads as take-fields-reads
 
 -- src/line.rt:126:23
 add-take-fields : tie.Need-add-take-fields

@@ -1,16 +1,9 @@
-use mathlib.Core.Path.{_≡_, refl, sym, ap, _∙_}
-use mathlib.Core.Logic.{⊎-elim}
-use Prim.Native.Nat.{ℕ, zero, suc, _≤_, _<_, _+_, _*_, _/_, _%_, _-_, _^_, min}
-use native.Mathlib.Numerals.{add-one}
+use mathlib.Core.Path.{_≡_}
 use native.Mathlib.Omega.{arith}
-use lib.ListN.{length, getD, set}
 use Rattle.text.proofs.Numbers.{digit-range}
 use borrow.Author.Needs.{needs}
 use Rattle.text.proofs.number.digit_of.Statement.{statement}
 use Rattle.text.proofs.number.digit_of.Tie as tie
-use Rattle.text.proofs.number.digit_of.Reads as reads
-use Rattle.text.proofs.number.digit_of.Lts as lts
-use Rattle.text.proofs.number.wide.Reads as wide-reads
 
 -- src/number.rt:41:5
 wide-requires : tie.Need-wide-requires

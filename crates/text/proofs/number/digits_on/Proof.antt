@@ -1,9 +1,7 @@
 use mathlib.Core.Path.{_≡_, refl, sym, ap, _∙_}
-use mathlib.Core.Logic.{⊎-elim}
-use Prim.Native.Nat.{ℕ, zero, suc, _≤_, _<_, _+_, _*_, _/_, _%_, _-_, _^_, min}
-use native.Mathlib.Numerals.{add-one}
+use Prim.Native.Nat.{_≤_, _<_, _+_, _*_, _-_}
 use native.Mathlib.Omega.{arith}
-use lib.ListN.{length, getD, drop}
+use lib.ListN.{length, drop}
 use borrow.Author.Tests.{not-true, not-false}
 use mathlib.Core.Bool.{true}
 use Rattle.lists.specs.Sums.{at}
@@ -12,10 +10,6 @@ use Rattle.text.proofs.Places.{digits-next, digits-big, digits-stop, di
 use borrow.Author.Needs.{needs}
 use Rattle.text.proofs.number.digits_on.Statement.{statement}
 use Rattle.text.proofs.number.digits_on.Tie as tie
-use Rattle.text.proofs.number.digits_on.Reads as reads
-use Rattle.text.proofs.number.digits_on.Lts as lts
-use Rattle.text.proofs.number.digit_of.Reads as digit-of-reads
-use Rattle.text.proofs.number.is_digit.Reads as is-digit-reads
 
 abbrev Inv-loop : tie.InvT-loop
 Inv-loop text at first value₀ i₀ value i = (digitsOn first (drop at text) ≡ digitsOn value (drop i text)) × (0 < i) × (i ≤ length text)

@@ -1,15 +1,8 @@
-use mathlib.Core.Path.{_≡_, refl, sym, ap, _∙_}
-use mathlib.Core.Logic.{⊎-elim}
-use Prim.Native.Nat.{ℕ, zero, suc, _≤_, _<_, _+_, _*_, _/_, _%_, _-_, _^_, min}
-use native.Mathlib.Numerals.{add-one}
+use mathlib.Core.Path.{sym}
 use native.Mathlib.Omega.{arith}
-use lib.ListN.{length, getD, set}
 use Rattle.text.proofs.Numbers.{digit-is, digit-low, digit-high}
-use borrow.Author.Needs.{needs}
 use Rattle.text.proofs.number.is_digit.Statement.{statement}
 use Rattle.text.proofs.number.is_digit.Tie as tie
-use Rattle.text.proofs.number.is_digit.Reads as reads
-use Rattle.text.proofs.number.is_digit.Lts as lts
 
 -- src/number.rt:28:9
 returns : tie.Need-returns

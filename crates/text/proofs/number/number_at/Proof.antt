@@ -1,19 +1,9 @@
-use mathlib.Core.Path.{_≡_, refl, sym, ap, _∙_}
-use mathlib.Core.Logic.{⊎-elim}
-use Prim.Native.Nat.{ℕ, zero, suc, _≤_, _<_, _+_, _*_, _/_, _%_, _-_, _^_, min}
-use native.Mathlib.Numerals.{add-one}
-use native.Mathlib.Omega.{arith}
-use lib.ListN.{length, getD, set}
+use mathlib.Core.Path.{sym, _∙_}
 use Rattle.text.proofs.Places.{number-stops, number-no-digit, number-is-zero, number-goes-on}
 use borrow.Author.Tests.{not-true, not-false}
 use borrow.Author.Needs.{needs}
 use Rattle.text.proofs.number.number_at.Statement.{statement}
 use Rattle.text.proofs.number.number_at.Tie as tie
-use Rattle.text.proofs.number.number_at.Reads as reads
-use Rattle.text.proofs.number.number_at.Lts as lts
-use Rattle.text.proofs.number.digit_of.Reads as digit-of-reads
-use Rattle.text.proofs.number.digits_on.Reads as digits-on-reads
-use Rattle.text.proofs.number.is_digit.Reads as is-digit-reads
 
 -- src/number.rt:71:9
 returns : tie.Need-returns

@@ -1,16 +1,12 @@
-use mathlib.Core.Path.{_≡_, refl, sym, ap, _∙_}
-use mathlib.Core.Logic.{⊎-elim}
-use Prim.Native.Nat.{ℕ, zero, suc, _≤_, _<_, _+_, _*_, _/_, _%_, _-_, _^_, min}
-use native.Mathlib.Numerals.{add-one}
+use mathlib.Core.Path.{_≡_, refl, ap}
+use Prim.Native.Nat.{_<_, _+_, _/_, _^_}
 use native.Mathlib.Omega.{arith}
-use lib.ListN.{length, getD, set}
+use lib.ListN.{length}
 use Rattle.text.specs.Numbers.{decimal}
 use Rattle.text.proofs.Numbers.{decimal-one, length-decimal, length-tenth}
 use borrow.Author.Needs.{needs}
 use Rattle.text.proofs.number.number_size.Statement.{statement}
 use Rattle.text.proofs.number.number_size.Tie as tie
-use Rattle.text.proofs.number.number_size.Reads as reads
-use Rattle.text.proofs.number.number_size.Lts as lts
 
 abbrev Inv-loop : tie.InvT-loop
 Inv-loop number size₀ left₀ size left = (size + length (decimal left) ≡ 1 + length (decimal number)) × (left < 2 ^ 64)

@@ -1,9 +1,7 @@
 use mathlib.Core.Path.{_≡_, refl, sym, ap, _∙_}
-use mathlib.Core.Logic.{⊎-elim}
-use Prim.Native.Nat.{ℕ, zero, suc, _≤_, _<_, _+_, _*_, _/_, _%_, _-_, _^_, min}
-use native.Mathlib.Numerals.{add-one}
+use Prim.Native.Nat.{_≤_, _<_, _+_, _/_, _%_, _-_, _^_}
 use native.Mathlib.Omega.{arith}
-use lib.ListN.{length, getD, set}
+use lib.ListN.{length, set}
 use lib.ListN.{length-set}
 use Rattle.text.specs.Numbers.{decimal}
 use Rattle.text.specs.Places.{stored}
@@ -12,9 +10,6 @@ use Rattle.text.proofs.Stores.{stored-one, stored-last}
 use borrow.Author.Needs.{needs}
 use Rattle.text.proofs.number.put_number.Statement.{statement}
 use Rattle.text.proofs.number.put_number.Tie as tie
-use Rattle.text.proofs.number.put_number.Reads as reads
-use Rattle.text.proofs.number.put_number.Lts as lts
-use Rattle.text.proofs.number.number_size.Reads as number-size-reads
 
 abbrev Inv-loop : tie.InvT-loop
 Inv-loop number out₀ at end i₀ left₀ out i left =
