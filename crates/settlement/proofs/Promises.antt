@@ -2,7 +2,7 @@
 -- services and the tables promise.
 -- Assumes nothing.
 use mathlib.Core.Path.{_≡_, refl, sym, ap, _∙_}
-use mathlib.Core.Logic.{_↔_, _≢_}
+use mathlib.Core.Logic.{_↔_, _≢_, inl, inr}
 use Prim.Native.Nat.{ℕ, _+_, _<_, _*_, _≤_}
 use native.Mathlib.Omega.{arith}
 use mathlib.Core.List.{List}
@@ -143,8 +143,8 @@ module _ {m : Input} {lentCharges lentCredits : ℕ} (all : Accepted m lentCharg
         balance.charges-by-zone m lentCharges lentCredits (all .good),
         all-zone-charges-are-credits,
         zone-0-charges-are-non-zone-credits,
-        service-charges-are-credits blackStart (mathlib.Core.Logic.inl refl),
-        service-charges-are-credits reactive (mathlib.Core.Logic.inr refl),
+        service-charges-are-credits blackStart (inl refl),
+        service-charges-are-credits reactive (inr refl),
       )
 
   module _ (s : ℕ) (i : IsService s) where
