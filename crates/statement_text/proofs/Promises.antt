@@ -3,16 +3,16 @@
 -- Assumes nothing.
 use mathlib.Core.Path.{_≡_, ap, _∙_}
 use mathlib.Core.Logic.{_≢_}
-use mathlib.Core.List.{List}
+use mathlib.Core.List.{List, [], _∷_}
 use Prim.Native.Nat.{ℕ, _≤_, _<_}
 use lib.ListN.{length}
 use Rattle.answer.specs.declared.Answer.{Answer}
 use Rattle.answer.specs.Turns.{refuse}
 use Rattle.text.specs.Bytes.{bytes}
-use Rattle.text.specs.Numbers.{digits, decimal}
+use Rattle.text.specs.Numbers.{digits, decimal, Below}
 use Rattle.text.specs.Lines.{fieldsText, lineText}
 use Rattle.monthfile.specs.Form.{monthForm}
-use Rattle.monthfile.specs.Reading.{got, Contents, reading}
+use Rattle.monthfile.specs.Reading.{got, refused, Contents, reading}
 use Rattle.pool.specs.Input.{Input}
 use Rattle.statement_text.specs.Statement.{
   allCharges,
@@ -49,6 +49,20 @@ accepted-is-no-refusal = sizes.lines-no-refusal
 pub accepted-is-stated : (text : List ℕ) (c : Contents) (rest : List ℕ) → length text ≤ mostBytes → reading monthForm text ≡ got c rest
     → settledAnswer (monthOf c) .number ≡ 0 → statementOf text ≡ statementLines (monthOf c)
 accepted-is-stated text c rest h e z = stating.short-text text h ∙ ap foundText e ∙ stating.settled-accepted (monthOf c) z
+
+-- "A refusal prints one line": a file within the limit that is refused has the line of its refusal ..
+pub refused-file-is-told : (text : List ℕ) (a : Answer) → length text ≤ mostBytes → reading monthForm text ≡ refused a → statementOf text ≡ refuseLine a
+refused-file-is-told text a h e = stating.short-text text h ∙ ap foundText e
+
+-- .. and so has one whose month is refused
+pub refused-month-is-told : (text : List ℕ) (c : Contents) (rest : List ℕ) → length text ≤ mostBytes → reading monthForm text ≡ got c rest
+    → settledAnswer (monthOf c) .number ≢ 0 → statementOf text ≡ refuseLine (settledAnswer (monthOf c))
+refused-month-is-told text c rest h e d = stating.short-text text h ∙ ap foundText e ∙ stating.settled-refused (monthOf c) d
+
+-- two refusals with the same line are the same: number, table and row
+pub lines-tell-refusals-apart : (a b : Answer) → Below (a .number ∷ a .table ∷ a .row ∷ []) → Below (b .number ∷ b .table ∷ b .row ∷ [])
+    → refuseLine a ≡ refuseLine b → a ≡ b
+lines-tell-refusals-apart = telling.same-refusal
 
 -- "(more is 1,0,0)"
 pub too-long-is-refused : (text : List ℕ) → mostBytes < length text → statementOf text ≡ bytes "refuse=1,0,0\n"

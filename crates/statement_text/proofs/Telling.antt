@@ -1,5 +1,5 @@
 -- A statement's lines read back to the numbers and figures that they were made of, so that months with the same statement have
--- the same figures.
+-- the same figures; and so does a refusal's line.
 -- Assumes nothing.
 use mathlib.Core.Path.{_≡_, refl, sym, ap, _∙_}
 use mathlib.Core.Bool.{true}
@@ -14,13 +14,15 @@ use Rattle.lists.specs.Sums.{sumTo, at}
 use Rattle.lists.specs.Entries.{listed}
 use Rattle.lists.proofs.Sums.{le-sum}
 use Rattle.lists.proofs.Entries.{length-listed, at-listed}
+use Rattle.answer.specs.declared.Answer.{Answer}
 use Rattle.tables.specs.declared.Table.the-variants.{Owners, Accounts}
 use Rattle.tables.specs.Shape.{limit, chargeWidth, creditWidth}
 use Rattle.tables.specs.Columns.{ownerNumber, accountNumber}
 use Rattle.text.specs.Bytes.{bytes}
-use Rattle.text.specs.Numbers.{bound, Below}
-use Rattle.text.specs.Lines.{apart, lineText}
+use Rattle.text.specs.Numbers.{Found, found, missing, bound, Below}
+use Rattle.text.specs.Lines.{apart, line, lineText}
 use Rattle.text.proofs.Below.{below-none, below-cons, below-append}
+use Rattle.text.proofs.Lines.{line-text}
 use Rattle.monthfile.specs.Form.{Kind}
 use Rattle.monthfile.specs.Reading.{Outcome, got, refused, Rows, tables}
 use Rattle.monthfile.specs.Writing.{rowsText, tablesText, AllFit}
@@ -29,7 +31,7 @@ use Rattle.monthfile.proofs.Forms.{differs, allDiffer, no-row-end, tables-text}
 use Rattle.pool.specs.Input.{Input, ownerCount, accountCount}
 use Rattle.settlement.specs.Settled.{laid, chargeOf, creditOf}
 use Rattle.settlement.specs.Accepted.{Accepted}
-use Rattle.statement_text.specs.Statement.{withNumber, rowsWith, linesText, allCharges, allCredits, statementLines}
+use Rattle.statement_text.specs.Statement.{withNumber, rowsWith, linesText, allCharges, allCredits, statementLines, refuseLine}
 use Rattle.statement_text.specs.Told.{SameRows, SameFigures}
 use Rattle.statement_text.proofs.Totals.{laid-at, totals-equal, charges-small}
 
@@ -160,3 +162,21 @@ same-statement {m} {m′} all all′ e =
       charges = same-rows _ _ _ _ _ _ _ (ap (λ ts. nth ts 0 .count) same) (ap (λ ts. nth ts 0 .words) same);
       credits = same-rows _ _ _ _ _ _ _ (ap (λ ts. nth ts 1 .count) same) (ap (λ ts. nth ts 1 .words) same);
     }
+
+-- the numbers of a line that was found
+abbrev numbers : Found (List ℕ) → List ℕ
+numbers missing = []
+numbers (found ns rest) = ns
+
+-- the three numbers of a refusal's line are read back from it
+refusal-back : (a : Answer) → Below (a .number ∷ a .table ∷ a .row ∷ [])
+    → line (bytes "refuse") 3 (refuseLine a ++ []) ≡ found (a .number ∷ a .table ∷ a .row ∷ []) []
+unfolding refuseLine
+refusal-back a small = line-text (bytes "refuse") (a .number ∷ a .table ∷ a .row ∷ []) [] small
+
+pub same-refusal : (a b : Answer) → Below (a .number ∷ a .table ∷ a .row ∷ []) → Below (b .number ∷ b .table ∷ b .row ∷ [])
+    → refuseLine a ≡ refuseLine b → a ≡ b
+same-refusal a b small small′ e =
+    let same : (a .number ∷ a .table ∷ a .row ∷ []) ≡ (b .number ∷ b .table ∷ b .row ∷ []) =
+    ap numbers (sym (refusal-back a small) ∙ ap (λ l. line (bytes "refuse") 3 (l ++ [])) e ∙ refusal-back b small′) in
+    λ i. record { number = at (same i) 0; table = at (same i) 1; row = at (same i) 2 }

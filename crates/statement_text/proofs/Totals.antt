@@ -9,6 +9,7 @@ use native.Mathlib.Nat.{add-zero, add-suc, add-assoc, suc-mul, zero-mul, mod-lt,
 use native.Mathlib.Omega.{arith}
 use lib.Arith.{digits-div, digits-mod, digits-lt}
 use lib.Dec.{eqb}
+use lib.ListN.{length}
 use Rattle.lists.specs.Sums.{sumTo, at, when}
 use Rattle.lists.proofs.Sums.{sum-eq, sum-at-most, sum-swap}
 use Rattle.lists.proofs.Entries.{listed-eq}
@@ -116,6 +117,13 @@ module _ {m : Input} {lentCharges lentCredits : ℕ} (all : Accepted m lentCharg
         service-total reactive (inr refl),
       )
 
+-- rows of a table with their figures, as many as were found
+figured : (table : Table) {width count found : ℕ} {words figures : List ℕ} → found ≡ count → width ≤ creditWidth → count ≤ rows table words
+    → count * width ≤ length figures → count ≤ limit table → sumTo (count * width) (at figures) < 2 ^ 64 → Figured table width found words figures
+figured table {width = width} {words = words} {figures = figures} e narrow there long few fits =
+    subst (λ n. Figured table width n words figures) (sym e)
+    (record { rowed = record { narrow = narrow; rows-there = there; figures-there = long }; few = few; fits = fits })
+
 -- an accepted month's figures in lent words
 module _ {m : Input} {accounts owners charges credits : List ℕ} {r : Figures} (l : Laid m accounts owners charges credits r) where
   all-fine : Accepted m (limit Accounts * chargeWidth) (limit Owners * creditWidth)
@@ -132,31 +140,13 @@ module _ {m : Input} {accounts owners charges credits : List ℕ} {r : Figures} 
 
   pub laid-accounts : Figured Accounts chargeWidth (r .accounts) accounts charges
   laid-accounts =
-      subst (λ n. Figured Accounts chargeWidth n accounts charges) (sym (l .account-rows))
-      (record {
-        rowed =
-            record {
-              narrow = omega arith;
-              rows-there = omega (arith, l .accounts-held .long);
-              figures-there = l .charges-held .long;
-            };
-        few = all-fine .good .frame .counted Accounts .few;
-        fits = lt-of-le-of-lt (le-of-eq charges-sum) (charges-small all-fine);
-      })
+      figured Accounts (l .account-rows) (omega arith) (omega (arith, l .accounts-held .long)) (l .charges-held .long) (all-fine .good .frame .counted Accounts .few)
+      (lt-of-le-of-lt (le-of-eq charges-sum) (charges-small all-fine))
 
   pub laid-owners : Figured Owners creditWidth (r .owners) owners credits
   laid-owners =
-      subst (λ n. Figured Owners creditWidth n owners credits) (sym (l .owner-rows))
-      (record {
-        rowed =
-            record {
-              narrow = omega arith;
-              rows-there = omega (arith, l .owners-held .long);
-              figures-there = l .credits-held .long;
-            };
-        few = all-fine .good .frame .counted Owners .few;
-        fits = lt-of-le-of-lt (le-of-eq (credits-sum ∙ sym (totals-equal all-fine))) (charges-small all-fine);
-      })
+      figured Owners (l .owner-rows) (omega arith) (omega (arith, l .owners-held .long)) (l .credits-held .long) (all-fine .good .frame .counted Owners .few)
+      (lt-of-le-of-lt (le-of-eq (credits-sum ∙ sym (totals-equal all-fine))) (charges-small all-fine))
 
   lines-at : monthLines (accountCount m) accounts charges (ownerCount m) owners credits ≡ statementLines m
   unfolding statementLines
