@@ -5,7 +5,7 @@ use mathlib.Core.Bool.{Bool, cond}
 use lib.Dec.{eqb}
 use Rattle.answer.specs.declared.Answer.{Answer}
 
--- a look: the refusal's number where its fault is there, else what the next look finds; 0 where none finds a fault
+-- a look: the refusal's number where its fault is there, else what the next look finds; behind the last one stands 0
 abbrev pub look : Bool → ℕ → ℕ → ℕ
 look fault number next = cond fault number next
 
@@ -26,7 +26,7 @@ infixl 20 _then_
 unfoldable pub _then_ : Answer → Answer → Answer
 a then b = cond (eqb (a .number) 0) b a
 
--- "then its divisions in turn": the first refusal of a 0, a 1, .. a (n − 1)
+-- answers in turn, of rows or of divisions: the first refusal of a 0, a 1, .. a (n − 1)
 unfoldable pub turns : (ℕ → Answer) → ℕ → Answer
 turns a zero = accepted
 turns a (suc n) = turns a n then a n

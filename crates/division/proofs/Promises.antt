@@ -1,18 +1,19 @@
--- What is promised of every division, beyond its definition. Nothing else stands here; the proofs cite `Parts`, `Reasons` and
--- `Passing`.
+-- What is promised of every division, beyond its definition. Nothing else stands here; the proofs cite `Parts`, `Refusals`, `Reasons`
+-- and `Passing`.
 -- Assumes nothing.
-use mathlib.Core.Path.{_≡_}
+use mathlib.Core.Path.{_≡_, sym, _∙_}
 use mathlib.Core.Logic.{_⊎_, _↔_, _≢_}
 use mathlib.Core.Bool.{true}
-use mathlib.Core.List.{List}
+use mathlib.Core.List.{List, _++_}
 use Prim.Native.Nat.{ℕ, _+_, _≤_, _<_}
-use lib.ListN.{length}
+use lib.ListN.{length, drop}
 use Rattle.lists.specs.Sums.{at, total, count, bit}
 use Rattle.closeness.specs.Closeness.{distance}
 use Rattle.division.specs.Limits.{mostWeights, potLimit, weightLimit, divideRefusal}
 use Rattle.division.specs.Shares.{quotient, remainder, leftover, getsCent, share, shares, Divided}
 use Rattle.division.specs.Refused.{DivideRefused}
 use Rattle.division.specs.declared.Division.{Division}
+use Rattle.division.proofs.Refusals.{memory-accepted, memory-refused}
 use Rattle.division.proofs.Reasons as reasons
 use Rattle.division.proofs.Parts as parts
 use Rattle.division.proofs.Passing as passing
@@ -33,6 +34,16 @@ divide-refused-why pot weights room n = (reasons.divide-why pot weights room n, 
 pub divide-answers : (pot : ℕ) (weights before after : List ℕ) (r : Division) → Divided pot weights before after r
     → r .answer ≡ record { number = divideRefusal pot weights (length before); table = 0; row = 0 }
 divide-answers pot weights before after r d = λ i. record { number = d .number i; table = d .table i; row = d .row i }
+
+-- "A refusal writes to no lent memory" ..
+pub refused-writes-nothing : (pot : ℕ) (weights before after : List ℕ) (r : Division) → Divided pot weights before after r
+    → r .answer .number ≢ 0 → after ≡ before
+refused-writes-nothing pot weights before after r d n = d .lent ∙ memory-refused pot weights before (λ z. n (d .number ∙ z))
+
+-- .. and acceptance the shares alone, with what was lent behind them
+pub accepted-writes-shares : (pot : ℕ) (weights before after : List ℕ) (r : Division) → Divided pot weights before after r
+    → r .answer .number ≡ 0 → after ≡ shares pot weights ++ drop (length weights) before
+accepted-writes-shares pot weights before after r d z = d .lent ∙ memory-accepted pot weights before (sym (d .number) ∙ z)
 
 -- the shares add up to the pot
 pub shares-add-up : (pot : ℕ) (weights : List ℕ) → 0 < total weights → total (shares pot weights) ≡ pot

@@ -31,6 +31,7 @@ comesBefore pot weights = largestFirst (remainder pot weights)
 unfoldable pub getsCent : ℕ → List ℕ → ℕ → Bool
 getsCent pot weights i = ltb (rank (length weights) (comesBefore pot weights) i) (leftover pot weights)
 
+-- what position i has: its whole cents, and one more where it gets one
 unfoldable pub share : ℕ → List ℕ → ℕ → ℕ
 share pot weights i = quotient pot weights i + bit (getsCent pot weights i)
 

@@ -15,7 +15,7 @@ use Rattle.groups.specs.Groups.{Pots, amount, amounts, refusal, groupsIn
 pub record Kept (weights groups : List ℕ) (group : ℕ) (before after : List ℕ) : Type 0 where
   pub lent : after ≡ put (length weights) (λ i. when (eqb (at groups i) group) (at weights i)) before
 
--- as many groups as this have sums that fit a word; the paper has 16 zones
+-- enough groups for the paper's 16 zones, and few enough that what a member has from all of them fits a word
 abbrev pub mostGroups : ℕ
 mostGroups = 64
 

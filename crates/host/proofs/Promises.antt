@@ -14,7 +14,7 @@ use Rattle.division.specs.Shares.{shares}
 use Rattle.verdict.specs.Check.{verdict, numberOf, valueOf}
 use Rattle.statement_text.proofs.Promises.{statement-is-short}
 use Rattle.host.specs.Words.{numbers, bytes}
-use Rattle.statement_text.specs.Statement.{statementOf}
+use Rattle.statement_text.specs.Statement.{statementOf, mostShown}
 use Rattle.host.specs.Calls.{word, hostDivideRefusal, hostMemory, HostDivided, hostVerdict, HostStated}
 use Rattle.host.proofs.Digits as digits
 use Rattle.host.proofs.Calls as calls
@@ -87,6 +87,6 @@ pub statement-without-room : (text before after : List ℕ) (r : ℕ) → HostSt
     → (r ≡ word ROOM 0) × (after ≡ before)
 statement-without-room = stating.statement-without-room
 
--- 10,128 bytes are enough for every statement
-pub always-room : (text before : List ℕ) → 10128 ≤ length before → length (statementOf text) ≤ length before
+-- `mostShown` bytes, 10,128, are enough for every statement
+pub always-room : (text before : List ℕ) → mostShown ≤ length before → length (statementOf text) ≤ length before
 always-room text before room = le-trans (statement-is-short text) room

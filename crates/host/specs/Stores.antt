@@ -14,7 +14,7 @@ numberAt bytes i = numberFrom bytes (wordBytes * i)
 abbrev pub byteAt : List ℕ → ℕ → ℕ
 byteAt ns j = byteOf (at ns (j / wordBytes)) (j % wordBytes)
 
--- the bytes after the first n bytes of a number are stored from a place on
+-- lent bytes once the first n bytes of a number are stored from a place on
 unfoldable pub storedTo : ℕ → List ℕ → ℕ → ℕ → List ℕ
 storedTo zero bytes place number = bytes
 storedTo (suc n) bytes place number = set (storedTo n bytes place number) (place + n) (byteOf number n)

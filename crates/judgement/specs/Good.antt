@@ -1,4 +1,4 @@
--- What a good month is, and what a refusal says, without any order of looking.
+-- What a good month is, without any order of looking: its tables and its head. Its divisions can still be refused.
 -- Assumes nothing.
 use mathlib.Core.Path.{_≡_}
 use mathlib.Core.Logic.{_⊎_, _≢_}

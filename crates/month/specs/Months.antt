@@ -38,7 +38,7 @@ isMonth month days = leb 1 month && leb month months && isLength month days
 unfoldable pub madeOf : ℕ → ℕ → Made
 madeOf month days = cond (isMonth month days) (Good (record { number = month; days = days })) Bad
 
--- the paper's number of what was made: 0, or "3 MONTH"
+-- the paper's number of what was made: 0, or MONTH
 abbrev pub numberOf : Made → ℕ
 numberOf (Good m) = 0
 numberOf Bad = MONTH

@@ -1,4 +1,5 @@
--- What the parts of `read` and `write` answer and leave, in terms of the text from an offset on.
+-- What the parts of `read` and `write` answer and leave, in terms of the text from an offset on. A reader who wants to know what the
+-- crate promises needs none of it.
 -- Assumes nothing.
 use mathlib.Core.Path.{_≡_}
 use mathlib.Core.Logic.{_≢_}

@@ -40,11 +40,11 @@ use Rattle.tables.specs.Limits.{lastZone, lastOwner, lastUnit, lastAccount, las
 abbrev pub outside : ℕ → ℕ → ℕ → Bool
 outside low high x = ltb x low || ltb high x
 
--- "1 zones: zone 1..999, rate"; "Rates are .. 0..10^8"
+-- zones: "zone 1..999, rate"; "Rates are .. 0..10^8"
 unfoldable pub zoneOutside : List ℕ → ℕ → Bool
 zoneOutside zones i = outside 1 lastZone (zoneNumber zones i) || outside 0 mostRate (zoneRate zones i)
 
--- "2 owners: owner 1..9999, zone, annual transmission requirement"; "Zone 0 .. outside an account .. is RANGE. An entry that
+-- owners: "owner 1..9999, zone, annual transmission requirement"; "Zone 0 .. outside an account .. is RANGE. An entry that
 -- names a row has that row's range"; "Annual requirements are 0..10^12"
 unfoldable pub ownerOutside : List ℕ → ℕ → Bool
 ownerOutside owners i =
@@ -52,7 +52,7 @@ ownerOutside owners i =
     || outside 1 lastZone (ownerZone owners i)
     || outside 0 mostAnnual (ownerRequirement owners i)
 
--- "3 units: unit 1..9999, owner, zone, service, annual requirement, reserve credit"; "Service is 1 black start or 2 reactive"
+-- units: "unit 1..9999, owner, zone, service, annual requirement, reserve credit"; "Service is 1 black start or 2 reactive"
 unfoldable pub unitOutside : List ℕ → ℕ → Bool
 unitOutside units i =
     outside 1 lastUnit (unitNumber units i)
@@ -62,19 +62,19 @@ unitOutside units i =
     || outside 0 mostAnnual (unitRequirement units i)
     || outside 0 (reserveLimit (unitService units i)) (unitReserve units i)
 
--- "4 accounts: account 1..9999, customer 1..10^9, zone"; "Zone 0 means non-zone or border"
+-- accounts: "account 1..9999, customer 1..10^9, zone"; "Zone 0 means non-zone or border"
 unfoldable pub accountOutside : List ℕ → ℕ → Bool
 accountOutside accounts i =
     outside 1 lastAccount (accountNumber accounts i)
     || outside 1 lastCustomer (accountCustomer accounts i)
     || outside 0 lastZone (accountZone accounts i)
 
--- "5 loads: account, day, peak load contribution"; "A day is 1..days"; "Peak load is .. 0..10^6"
+-- loads: "account, day, peak load contribution"; "A day is 1..days"; "Peak load is .. 0..10^6"
 unfoldable pub loadOutside : ℕ → List ℕ → ℕ → Bool
 loadOutside days loads i =
     outside 1 lastAccount (loadAccount loads i) || outside 1 days (loadDay loads i) || outside 0 mostLoad (loadContribution loads i)
 
--- "6 reservations: account, reserved, curtailed"; "0..10^9, curtailed at most reserved"
+-- reservations: "account, reserved, curtailed"; "0..10^9, curtailed at most reserved"
 unfoldable pub reservationOutside : List ℕ → ℕ → Bool
 reservationOutside reservations i =
     outside 1 lastAccount (reservationAccount reservations i)

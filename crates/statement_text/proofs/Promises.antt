@@ -23,6 +23,7 @@ use Rattle.statement_text.specs.Statement.{
   monthOf,
   foundText,
   mostBytes,
+  mostShown,
   statementOf,
 }
 use Rattle.statement_text.specs.Told.{SameFigures}
@@ -69,6 +70,6 @@ pub too-long-is-refused : (text : List ℕ) → mostBytes < length text → stat
 unfolding refuse refuseLine lineText fieldsText decimal digits
 too-long-is-refused text h = stating.long-text text h
 
--- no statement has more than 10,128 bytes, so that no room of that size is too short
-pub statement-is-short : (text : List ℕ) → length (statementOf text) ≤ 10128
+-- no statement has more than `mostShown` bytes, 10,128, so that no room of that size is too short
+pub statement-is-short : (text : List ℕ) → length (statementOf text) ≤ mostShown
 statement-is-short = sizes.statement-short

@@ -11,14 +11,14 @@ use Rattle.tables.specs.Shape.{width}
 abbrev pub entry : Table → ℕ → List ℕ → ℕ → ℕ
 entry table column words i = at words (i * width table + column)
 
--- "zone, rate"
+-- table 1: a zone, its rate
 abbrev pub zoneNumber : List ℕ → ℕ → ℕ
 zoneNumber zones i = entry Zones 0 zones i
 
 abbrev pub zoneRate : List ℕ → ℕ → ℕ
 zoneRate zones i = entry Zones 1 zones i
 
--- "owner, zone, annual transmission requirement"
+-- table 2: an owner, its zone, its annual transmission requirement
 abbrev pub ownerNumber : List ℕ → ℕ → ℕ
 ownerNumber owners i = entry Owners 0 owners i
 
@@ -28,7 +28,7 @@ ownerZone owners i = entry Owners 1 owners i
 abbrev pub ownerRequirement : List ℕ → ℕ → ℕ
 ownerRequirement owners i = entry Owners 2 owners i
 
--- "unit, owner, zone, service, annual requirement, reserve credit"
+-- table 3: a unit, its owner, its zone, its service, its annual requirement, its reserve credit
 abbrev pub unitNumber : List ℕ → ℕ → ℕ
 unitNumber units i = entry Units 0 units i
 
@@ -47,7 +47,7 @@ unitRequirement units i = entry Units 4 units i
 abbrev pub unitReserve : List ℕ → ℕ → ℕ
 unitReserve units i = entry Units 5 units i
 
--- "account, customer, zone"
+-- table 4: an account, its customer, its zone
 abbrev pub accountNumber : List ℕ → ℕ → ℕ
 accountNumber accounts i = entry Accounts 0 accounts i
 
@@ -57,7 +57,7 @@ accountCustomer accounts i = entry Accounts 1 accounts i
 abbrev pub accountZone : List ℕ → ℕ → ℕ
 accountZone accounts i = entry Accounts 2 accounts i
 
--- "account, day, peak load contribution"
+-- table 5: an account, a day, its peak load contribution
 abbrev pub loadAccount : List ℕ → ℕ → ℕ
 loadAccount loads i = entry Loads 0 loads i
 
@@ -67,7 +67,7 @@ loadDay loads i = entry Loads 1 loads i
 abbrev pub loadContribution : List ℕ → ℕ → ℕ
 loadContribution loads i = entry Loads 2 loads i
 
--- "account, reserved, curtailed"
+-- table 6: an account, its energy reserved and curtailed
 abbrev pub reservationAccount : List ℕ → ℕ → ℕ
 reservationAccount reservations i = entry Reservations 0 reservations i
 

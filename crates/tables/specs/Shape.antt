@@ -16,7 +16,7 @@ number Accounts = tables.accounts
 number Loads = tables.loads
 number Reservations = tables.reservations
 
--- tables 1 to 6 by their place, which starts at 0
+-- tables 1 to 6 by their place, 0 to 5; a place behind them is taken for the last
 abbrev pub tableAt : ℕ → Table
 tableAt zero = Zones
 tableAt (suc zero) = Owners

@@ -38,7 +38,7 @@ numberOf Yes = 0
 numberOf No = 0
 numberOf (Refused number) = number
 
--- the value of each case: 1 for yes, 0 for no and where the check is refused
+-- the value that the host hands on for each case, ours and not the paper's: 1 for yes, 0 for no and where the check is refused
 abbrev pub valueOf : Verdict → ℕ
 valueOf Yes = 1
 valueOf No = 0
