@@ -5,7 +5,7 @@ use Rattle.lists.specs.Sums.{sumTo, every, largestFirst}
 use Rattle.lists.specs.Entries.{listed}
 use Rattle.closeness.specs.Closeness.{level}
 use Rattle.division.specs.Limits.{sizeRefusal, divideRefusal}
-use Rattle.division.specs.Shares.{quotient, remainder, leftover, comesBefore, getsCent, share, shares}
+use Rattle.division.specs.Shares.{quotient, remainder, leftover, comesBefore, getsCent, share, shares, memory}
 use Rattle.verdict.specs.Check.{checkRefusal, passes, verdict}
 use Rattle.month.specs.Quantities.{nearest, networkCharge}
 use Rattle.month.specs.Months.{through, twelfth}
@@ -13,7 +13,7 @@ use Rattle.figures.specs.Starred.{Starred}
 use Rattle.figures.proofs.Statements.{case-s}
 
 pub starred : Starred
-unfolding sumTo every largestFirst listed level sizeRefusal divideRefusal checkRefusal quotient remainder leftover comesBefore getsCent share shares passes verdict nearest networkCharge through twelfth
+unfolding sumTo every largestFirst listed level sizeRefusal divideRefusal checkRefusal quotient remainder leftover comesBefore getsCent share shares memory passes verdict nearest networkCharge through twelfth
 starred =
     record {
       D1 = refl;
@@ -22,7 +22,6 @@ starred =
       D4 = refl;
       D5 = refl;
       D6 = refl;
-      D6-accepted = refl;
       D7 = refl;
       D7-baseless = refl;
       C1 = refl;

@@ -4,7 +4,7 @@ use mathlib.Core.Path.{_≡_}
 use mathlib.Core.List.{[], _∷_}
 use Rattle.answer.specs.Numbers.{BASE}
 use Rattle.division.specs.Limits.{divideRefusal}
-use Rattle.division.specs.Shares.{shares}
+use Rattle.division.specs.Shares.{memory}
 use Rattle.verdict.specs.Check.{verdict}
 use Rattle.verdict.specs.declared.Verdict.the-variants.{Yes, No}
 use Rattle.month.specs.Quantities.{networkCharge}
@@ -13,16 +13,16 @@ use Rattle.text.specs.Bytes.{bytes}
 use Rattle.statement_text.specs.Statement.{statementOf}
 
 pub record Starred : Type 0 where
+  -- what a division leaves in lent words that were all 7, one more than it needs: a refusal would leave them
   -- 100 by 1, 1, 1 and by 1, 2, 4
-  pub D1 : shares 100 (1 ∷ 1 ∷ 1 ∷ []) ≡ 34 ∷ 33 ∷ 33 ∷ []
-  pub D2 : shares 100 (1 ∷ 2 ∷ 4 ∷ []) ≡ 14 ∷ 29 ∷ 57 ∷ []
+  pub D1 : memory 100 (1 ∷ 1 ∷ 1 ∷ []) (7 ∷ 7 ∷ 7 ∷ 7 ∷ []) ≡ 34 ∷ 33 ∷ 33 ∷ 7 ∷ []
+  pub D2 : memory 100 (1 ∷ 2 ∷ 4 ∷ []) (7 ∷ 7 ∷ 7 ∷ 7 ∷ []) ≡ 14 ∷ 29 ∷ 57 ∷ 7 ∷ []
   -- 2 by 1, 1, 1, 1: the tie goes to the lower positions
-  pub D3 : shares 2 (1 ∷ 1 ∷ 1 ∷ 1 ∷ []) ≡ 1 ∷ 1 ∷ 0 ∷ 0 ∷ []
-  pub D4 : shares 5 (0 ∷ 7 ∷ []) ≡ 0 ∷ 5 ∷ []
+  pub D3 : memory 2 (1 ∷ 1 ∷ 1 ∷ 1 ∷ []) (7 ∷ 7 ∷ 7 ∷ 7 ∷ 7 ∷ []) ≡ 1 ∷ 1 ∷ 0 ∷ 0 ∷ 7 ∷ []
+  pub D4 : memory 5 (0 ∷ 7 ∷ []) (7 ∷ 7 ∷ 7 ∷ []) ≡ 0 ∷ 5 ∷ 7 ∷ []
   -- 1 by 0, 0 has no base; 0 by 0, 0 is divided
   pub D5 : divideRefusal 1 (0 ∷ 0 ∷ []) 2 ≡ BASE
-  pub D6 : shares 0 (0 ∷ 0 ∷ []) ≡ 0 ∷ 0 ∷ []
-  pub D6-accepted : divideRefusal 0 (0 ∷ 0 ∷ []) 2 ≡ 0
+  pub D6 : memory 0 (0 ∷ 0 ∷ []) (7 ∷ 7 ∷ 7 ∷ []) ≡ 0 ∷ 0 ∷ 7 ∷ []
   -- 0 by nothing is accepted, 1 by nothing has no base
   pub D7 : divideRefusal 0 [] 0 ≡ 0
   pub D7-baseless : divideRefusal 1 [] 0 ≡ BASE
