@@ -9,19 +9,21 @@ use native.Mathlib.Nat.{zero-add}
 use native.Mathlib.Omega.{arith}
 use lib.Dec.{eqb, ltb}
 use borrow.Author.Tests.{eq-eqb, ne-eqb, lt-ltb, ltb-false}
-use Rattle.lists.specs.Sums.{sumTo, at, when, count}
+use Rattle.lists.specs.Sums.{sumTo, at, total, when, count}
 use Rattle.lists.specs.Entries.{kept}
 use Rattle.lists.proofs.Sums.{sum-eq, sum-add}
 use Rattle.lists.proofs.Ranks.{lt-or-le}
 use Rattle.answer.specs.declared.Answer.{Answer}
 use Rattle.answer.specs.Numbers.{BIG, BASE}
+use Rattle.answer.specs.Turns.{accepted}
 use Rattle.division.specs.Shares.{shares}
-use Rattle.groups.specs.Groups.{alone, amounts}
+use Rattle.groups.specs.Groups.{weightsIn, refusal, alone, amounts}
 use Rattle.groups.proofs.Members.{share-alone}
 use Rattle.groups.proofs.Laws.{pots-divided, members-have-all, others-none, weightless-none-at-all, from-own-group, groupless-none, amount-alone}
 use Rattle.service.specs.Service.{
   Service,
   nonzoneUse,
+  uses,
   zoneSide,
   nonzoneSide,
   zoneSides,
@@ -31,13 +33,33 @@ use Rattle.service.specs.Service.{
   nonzoneShare,
   serviceCharge,
 }
-use Rattle.service.specs.Turn.{splitRefusal, shareRefusal, nonzoneRefusal, serviceInTurn, Accepted, RefusedAt}
+use Rattle.service.specs.Turn.{splitRefusal, shareRefusal, nonzoneRefusal, serviceInTurn, FineSize, Accepted, RefusedAt}
 use Rattle.service.proofs.Laws as laws
 use Rattle.service.proofs.Turns as turns
 
--- a service is accepted exactly where every division of it is fine
-pub accepted-exactly : (s : Service) (place : ℕ) → (serviceInTurn s place .number ≡ 0) ↔ Accepted s
-accepted-exactly s place = (turns.accepted-fine s place, λ all. ap (λ (r : Answer). r .number) (turns.fine-accepted s place all))
+-- a service is accepted, with 0, 0, 0, exactly where every division of it is fine ..
+pub accepted-exactly : (s : Service) (place : ℕ) → (serviceInTurn s place ≡ accepted) ↔ Accepted s
+accepted-exactly s place = (
+  (λ e. turns.accepted-fine s place (ap (λ (r : Answer). r .number) e)),
+  turns.fine-accepted s place,
+)
+
+-- .. and refused with an answer exactly when that is of the first that is not; at a share it is BASE, at the non-zone pot BIG
+pub refused-exactly : (s : Service) (place : ℕ) (r : Answer) → RefusedAt s place r ↔ ((serviceInTurn s place ≡ r) × (r .number ≢ 0))
+refused-exactly = turns.refused-exactly
+
+-- a split, a share and the non-zone pot's division are fine exactly where pot and weights are within their limits and a pot has a base
+pub split-fine-exactly : (s : Service) (z : ℕ) → (splitRefusal s z ≡ 0) ↔ FineSize (s .pot z) (total (uses s))
+unfolding splitRefusal
+split-fine-exactly s z = turns.size-exactly (s .pot z) (total (uses s))
+
+pub share-fine-exactly : (s : Service) (z : ℕ) → (shareRefusal s z ≡ 0) ↔ FineSize (zoneSide s z) (total (weightsIn (zoneSides s) z))
+unfolding shareRefusal refusal
+share-fine-exactly s z = turns.size-exactly (zoneSide s z) (total (weightsIn (zoneSides s) z))
+
+pub nonzone-fine-exactly : (s : Service) → (nonzoneRefusal s ≡ 0) ↔ FineSize (nonzonePot s) (total (nonzoneParts s))
+unfolding nonzoneRefusal
+nonzone-fine-exactly s = turns.size-exactly (nonzonePot s) (total (nonzoneParts s))
 
 -- the two sides of a zone's pot are its division by all zone use and all non-zone use ..
 pub split-by-uses : (s : Service) (z : ℕ)
@@ -151,7 +173,3 @@ nonzone-pot-has-use s fine some =
 pub nonzone-never-base : (s : Service) → ((z : ℕ) → z < s .zones → splitRefusal s z ≡ 0) → nonzoneRefusal s ≢ BASE
 nonzone-never-base s fine base =
     ⊎-elim (λ (e : nonzoneRefusal s ≡ 0). omega arith) (λ (e : nonzoneRefusal s ≡ BIG). omega arith) (laws.nonzone-fine-or-big s fine)
-
--- a refused service says at which division, and every one before it is fine; at a share it is BASE, at the non-zone pot BIG
-pub refused-where : (s : Service) (place : ℕ) → serviceInTurn s place .number ≢ 0 → RefusedAt s place (serviceInTurn s place)
-refused-where = turns.refused-where
