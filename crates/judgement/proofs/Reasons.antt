@@ -37,10 +37,10 @@ look-stops {Rule} {fault} n table row d test broken =
     ap (λ k. refuse k table row) (look-fault fault n 0 (faulty test broken)) ∙ refuse-some n table row d
 
 -- in turn: what is accepted leaves the answer to what follows, what is refused stays
-onward : {a b r : Answer} → a ≡ accepted → b ≡ r → (a then b) ≡ r
+pub onward : {a b r : Answer} → a ≡ accepted → b ≡ r → (a then b) ≡ r
 onward {a} {b} e f = then-second a b (ap (λ (k : Answer). k .number) e) ∙ f
 
-stays : {a r : Answer} → r .number ≢ 0 → (b : Answer) → a ≡ r → (a then b) ≡ r
+pub stays : {a r : Answer} → r .number ≢ 0 → (b : Answer) → a ≡ r → (a then b) ≡ r
 stays {a} d b e = then-first a b (λ z. d (ap (λ (k : Answer). k .number) (sym e) ∙ z)) ∙ e
 
 -- six tables in turn, of which those with number 0 are accepted: the first that is refused has the answer

@@ -131,4 +131,4 @@ module _ {m : Input} {lentCharges lentCredits : ℕ} (all : Accepted m lentCharg
       → networkCredit m o ≡ amount (networkPots m) z o
   unfolding networkCredit
   credit-from-own-zone o z b h e =
-      from-own-group (networkPots m) (all .zones-fine) o z b h (eq-eqb (ownerZone owners o) (zoneNumber zones z) e) (zones-distinct z h)
+      from-own-group (networkPots m) (all .network-fine .zones-fine) o z b h (eq-eqb (ownerZone owners o) (zoneNumber zones z) e) (zones-distinct z h)

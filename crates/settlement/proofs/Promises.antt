@@ -8,18 +8,20 @@ use native.Mathlib.Omega.{arith}
 use mathlib.Core.List.{List}
 use lib.Dec.{eqb}
 use borrow.Author.Tests.{eq-eqb, ne-eqb}
-use Rattle.lists.specs.Sums.{sumTo, when, sumWhere, count, at}
+use Rattle.lists.specs.Sums.{sumTo, at, total, sumWhere, when, count}
 use Rattle.lists.specs.Entries.{kept}
 use Rattle.lists.proofs.Sums.{sum-zero, where-eq}
 use Rattle.answer.specs.declared.Answer.{Answer}
 use Rattle.answer.specs.Numbers.{BIG, BASE}
+use Rattle.answer.specs.Turns.{accepted}
 use Rattle.division.specs.Shares.{shares}
-use Rattle.groups.specs.Groups.{amount, alone}
+use Rattle.groups.specs.Groups.{weightsIn, alone, amount, refusal}
 use Rattle.groups.proofs.Members.{listed-add-up, listed-none}
 use Rattle.groups.proofs.Laws.{pots-divided, pot-divided, members-have-all, amount-alone, weightless-none-at-all}
 use Rattle.service.specs.Service.{zoneSide, nonzoneSide, nonzonePot, zoneShare, nonzoneShare}
 use Rattle.service.specs.Turn.{splitRefusal, shareRefusal}
 use Rattle.service.specs.Turn as turn
+use Rattle.service.proofs.Turns.{size-exactly}
 use Rattle.service.proofs.Promises as service
 use Rattle.tables.specs.Shape.{chargeWidth, creditWidth, Tables}
 use Rattle.tables.specs.Columns.{zoneNumber, ownerNumber, ownerZone, ownerRequirement, unitOwner, accountZone, zoneRate, accountNumber, reservationAccount, reservationReserved, reservationCurtailed}
@@ -38,16 +40,27 @@ use Rattle.settlement.proofs.Ranges as ranges
 use Rattle.settlement.proofs.Parts as parts
 
 module _ (m : Input) (lentCharges lentCredits : ℕ) where
-  -- a month is accepted exactly where its input is good and every division is fine: no good month is refused
-  pub accepted-exactly : (answerOf m lentCharges lentCredits .number ≡ 0) ↔ Accepted m lentCharges lentCredits
+  -- a month is accepted, with 0, 0, 0, exactly where its input is good and every division is fine: no good month is refused
+  pub accepted-exactly : (answerOf m lentCharges lentCredits ≡ accepted) ↔ Accepted m lentCharges lentCredits
   accepted-exactly = (
-    answer-accepted m lentCharges lentCredits,
-    λ all. ap (λ (r : Answer). r .number) (accepted-answer m lentCharges lentCredits all),
+    (λ e. answer-accepted m lentCharges lentCredits (ap (λ (r : Answer). r .number) e)),
+    accepted-answer m lentCharges lentCredits,
   )
 
-  -- a refused month names the rule of the tables that is broken, or the first division that is not fine, by the paper's place
-  pub refused-why : answerOf m lentCharges lentCredits .number ≢ 0 → Refused m lentCharges lentCredits (answerOf m lentCharges lentCredits)
-  refused-why = refusing.refused-why m lentCharges lentCredits
+  -- a month is refused with an answer exactly when that names the first rule of the tables that is broken or, by the paper's place,
+  -- the first division that is not fine
+  pub refused-exactly : (r : Answer) → Refused m lentCharges lentCredits r ↔ ((answerOf m lentCharges lentCredits ≡ r) × (r .number ≢ 0))
+  refused-exactly = refusing.answer-exactly m lentCharges lentCredits
+
+-- a network division is fine exactly where pot and weights are within their limits and a pot has a base
+pub zone-fine-exactly : (m : Input) (z : ℕ)
+    → (refusal (networkPots m) z ≡ 0) ↔ turn.FineSize (chargesIn m (zoneNumber (m .tables .zones) z)) (total (weightsIn (networkPots m) z))
+unfolding refusal
+zone-fine-exactly m z = size-exactly (chargesIn m (zoneNumber (m .tables .zones) z)) (total (weightsIn (networkPots m) z))
+
+pub nonzone-fine-exactly : (m : Input) → (nonzoneRefusal m ≡ 0) ↔ turn.FineSize (chargesIn m 0) (total (requirements m))
+unfolding nonzoneRefusal
+nonzone-fine-exactly m = size-exactly (chargesIn m 0) (total (requirements m))
 
 -- the places of the services' divisions are the paper's
 pub places-are-the-papers : (m : Input) → Places m
@@ -93,14 +106,14 @@ module _ {m : Input} {lentCharges lentCredits : ℕ} (all : Accepted m lentCharg
   pub no-requirement-no-credit : (o : ℕ) → o < ownerCount m → ownerRequirement owners o ≡ 0 → (networkCredit m o ≡ 0) × (nonzoneCredit m o ≡ 0)
   unfolding networkCredit nonzoneCredit requirements nonzoneRefusal
   no-requirement-no-credit o b e = (
-    weightless-none-at-all (networkPots m) (all .zones-fine) o b e,
-    listed-none (chargesIn m 0) (ownerCount m) (ownerRequirement owners) (all .nonzone-fine) o b e,
+    weightless-none-at-all (networkPots m) (all .network-fine .zones-fine) o b e,
+    listed-none (chargesIn m 0) (ownerCount m) (ownerRequirement owners) (all .network-fine .nonzone-fine) o b e,
   )
 
   -- in each zone the network charges of its accounts add up to what its owners have from it ..
   pub zone-charges-are-credits-from-it : (z : ℕ) → z < zoneCount m
       → chargesIn m (zoneNumber zones z) ≡ sumTo (ownerCount m) (λ o. amount (networkPots m) z o)
-  zone-charges-are-credits-from-it z b = sym (pot-divided (networkPots m) z (all .zones-fine z b))
+  zone-charges-are-credits-from-it z b = sym (pot-divided (networkPots m) z (all .network-fine .zones-fine z b))
 
   -- .. which is the network credit of each, and nobody else's: "In each zone the network charges equal the network credits"
   pub network-credit-is-from-own-zone : (o z : ℕ) → o < ownerCount m → z < zoneCount m → ownerZone owners o ≡ zoneNumber zones z
@@ -111,20 +124,20 @@ module _ {m : Input} {lentCharges lentCredits : ℕ} (all : Accepted m lentCharg
       → chargesIn m (zoneNumber zones z) ≡ sumWhere (ownerCount m) (ownerZone owners) (networkCredit m) (zoneNumber zones z)
   unfolding sumWhere
   zone-charges-are-credits z b =
-      sym (members-have-all (networkPots m) z (all .zones-fine z b))
+      sym (members-have-all (networkPots m) z (all .network-fine .zones-fine z b))
       ∙ where-eq (ownerCount m) (ownerZone owners) (amount (networkPots m) z) (zoneNumber zones z) (networkCredit m)
       (λ o h e. sym (parts.credit-from-own-zone all o z h b e))
 
   -- all zones' network charges add up to all network credits
   pub all-zone-charges-are-credits : sumTo (zoneCount m) (λ z. chargesIn m (zoneNumber zones z)) ≡ sumTo (ownerCount m) (networkCredit m)
   unfolding networkCredit
-  all-zone-charges-are-credits = sym (pots-divided (networkPots m) (all .zones-fine))
+  all-zone-charges-are-credits = sym (pots-divided (networkPots m) (all .network-fine .zones-fine))
 
   -- the network charges of zone 0 add up to all non-zone credits
   pub zone-0-charges-are-non-zone-credits : chargesIn m 0 ≡ sumTo (ownerCount m) (nonzoneCredit m)
   unfolding nonzoneCredit requirements nonzoneRefusal
   zone-0-charges-are-non-zone-credits =
-      sym (listed-add-up (chargesIn m 0) (ownerCount m) (ownerRequirement owners) (all .nonzone-fine))
+      sym (listed-add-up (chargesIn m 0) (ownerCount m) (ownerRequirement owners) (all .network-fine .nonzone-fine))
 
   -- "over the pool the same holds for black start and for reactive"
   pub service-charges-are-credits : (s : ℕ) → IsService s → sumTo (accountCount m) (serviceCharge m s) ≡ sumTo (ownerCount m) (serviceCredit m s)
@@ -199,7 +212,7 @@ module _ {m : Input} {lentCharges lentCredits : ℕ} (all : Accepted m lentCharg
   unfolding alone
   credit-among-zone-owners o z b h e =
       parts.credit-from-own-zone all o z b h e
-      ∙ amount-alone (networkPots m) z (all .zones-fine z h) o b (eq-eqb (ownerZone owners o) (zoneNumber zones z) e)
+      ∙ amount-alone (networkPots m) z (all .network-fine .zones-fine z h) o b (eq-eqb (ownerZone owners o) (zoneNumber zones z) e)
 
 -- an owner without units has no service credit
 pub no-units-no-credit : (m : Input) (s o : ℕ) → ((u : ℕ) → u < unitCount m → unitOwner (m .tables .units) u ≢ ownerNumber (m .tables .owners) o) → serviceCredit m s o ≡ 0
