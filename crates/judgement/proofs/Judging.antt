@@ -8,7 +8,7 @@ use native.Mathlib.Omega.{arith}
 use lib.ListN.{length}
 use Rattle.answer.specs.declared.Answer.{Answer}
 use Rattle.answer.specs.Numbers.{COUNT, ROOM, MONTH, RANGE, head, charges, credits}
-use Rattle.answer.specs.Turns.{look, accepted, refuse, first, refusal}
+use Rattle.answer.specs.Turns.{look, refuse, first, refusal}
 use Rattle.answer.proofs.Turns.{zero-or-not, first-none, first-all, first-refused, RefusedAt}
 use Rattle.month.specs.Limits.{mostRate}
 use Rattle.month.specs.Months.{isMonth}

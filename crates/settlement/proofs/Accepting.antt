@@ -6,7 +6,7 @@ use Prim.Native.Nat.{ℕ}
 use native.Mathlib.Nat.{zero-add}
 use Rattle.answer.specs.declared.Answer.{Answer}
 use Rattle.answer.specs.Numbers.{divisions}
-use Rattle.answer.specs.Turns.{accepted, refuse, refusal}
+use Rattle.answer.specs.Turns.{accepted, refuse}
 use Rattle.answer.proofs.Turns.{zero-or-not, refuse-none}
 use Rattle.division.proofs.Laws.{size-why}
 use Rattle.groups.specs.Groups as groups
@@ -30,7 +30,7 @@ use Rattle.settlement.specs.Settled.{
   divisionsInTurn,
   answerOf,
 }
-use Rattle.settlement.specs.Accepted.{Good, IsService, ZonesFine, NetworkFine, Accepted}
+use Rattle.settlement.specs.Accepted.{Good, ZonesFine, NetworkFine, Accepted}
 use Rattle.settlement.specs.Refused.{Refused, by-tables, at-zone, at-nonzone, in-black-start, in-reactive}
 
 module _ (m : Input) (lentCharges lentCredits : ℕ) where

@@ -7,10 +7,10 @@ use Prim.Native.Nat.{ℕ, _+_, _<_, _*_, _≤_}
 use native.Mathlib.Omega.{arith}
 use mathlib.Core.List.{List}
 use lib.Dec.{eqb}
-use borrow.Author.Tests.{eq-eqb, ne-eqb}
-use Rattle.lists.specs.Sums.{sumTo, at, total, sumWhere, when, count}
+use borrow.Author.Tests.{eq-eqb}
+use Rattle.lists.specs.Sums.{sumTo, at, total, sumWhere, count}
 use Rattle.lists.specs.Entries.{kept}
-use Rattle.lists.proofs.Sums.{sum-zero, where-eq}
+use Rattle.lists.proofs.Sums.{where-eq}
 use Rattle.answer.specs.declared.Answer.{Answer}
 use Rattle.answer.specs.Numbers.{BIG, BASE}
 use Rattle.answer.specs.Turns.{accepted}

@@ -3,7 +3,6 @@
 use Prim.Native.Nat.{ℕ}
 use lib.Dec.{eqb}
 use Rattle.lists.specs.Sums.{sumWhere, when}
-use Rattle.tables.specs.Shape.{Tables}
 use Rattle.tables.specs.Columns.{accountNumber, loadAccount, loadDay, loadContribution}
 use Rattle.pool.specs.Input.{Input, loadCount}
 
