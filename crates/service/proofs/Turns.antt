@@ -84,14 +84,15 @@ module _ (s : Service) (place : ℕ) where
         shares = λ y b. fine-turn s place y (turns-all (zoneTurn s place) (s .zones) e y b) .1;
       }
 
+  zones-pass : (z : ℕ) → FineBefore s z → (y : ℕ) → y < z → zoneTurn s place y ≡ accepted
+  zones-pass z before y b = turn-fine s place y (before .splits y b) (before .shares y b)
+
   pub accepted-fine : serviceInTurn s place .number ≡ 0 → Accepted s
   unfolding serviceInTurn
   accepted-fine e =
       let parts = then-none (turns (zoneTurn s place) (s .zones)) (refuse (nonzoneRefusal s) divisions (nonzonePlace place s)) e in
-      let zones : FineBefore s (s .zones) = zones-fine (parts .0) in
       record {
-        split-fine = zones .splits;
-        share-fine = zones .shares;
+        zones-fine = zones-fine (parts .0);
         nonzone-fine = sym (refuse-number (nonzoneRefusal s) divisions (nonzonePlace place s)) ∙ parts .1;
       }
 
@@ -99,8 +100,7 @@ module _ (s : Service) (place : ℕ) where
   unfolding serviceInTurn
   fine-accepted a =
       then-second (turns (zoneTurn s place) (s .zones)) _
-      (ap (λ (r : Answer). r .number)
-      (turns-none (zoneTurn s place) (s .zones) (λ z b. turn-fine s place z (a .split-fine z b) (a .share-fine z b))))
+      (ap (λ (r : Answer). r .number) (turns-none (zoneTurn s place) (s .zones) (zones-pass (s .zones) (a .zones-fine))))
       ∙ refuse-none (nonzoneRefusal s) divisions (nonzonePlace place s) (a .nonzone-fine)
 
   -- the two divisions of a zone that is refused
@@ -159,9 +159,6 @@ module _ (s : Service) (place : ℕ) where
       (zero-or-not ((turns (zoneTurn s place) (s .zones)) .number))
 
   -- a reason that is so is what is answered: the zones before pass, and the division that it names does not
-  zones-pass : (z : ℕ) → FineBefore s z → (y : ℕ) → y < z → zoneTurn s place y ≡ accepted
-  zones-pass z before y b = turn-fine s place y (before .splits y b) (before .shares y b)
-
   zone-stops : (z : ℕ) → z < s .zones → FineBefore s z → (r : Answer) → zoneTurn s place z ≡ r → r .number ≢ 0 → serviceInTurn s place ≡ r
   unfolding serviceInTurn
   zone-stops z b before r e d =

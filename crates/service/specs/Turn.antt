@@ -59,16 +59,15 @@ pub record FineSize (pot w : ℕ) : Type 0 where
   pub weights-fit : w ≤ weightLimit
   pub has-base : w ≡ 0 → pot ≡ 0
 
--- A service is accepted where every division of it is fine.
-pub record Accepted (s : Service) : Type 0 where
-  pub split-fine : (z : ℕ) → z < s .zones → splitRefusal s z ≡ 0
-  pub share-fine : (z : ℕ) → z < s .zones → shareRefusal s z ≡ 0
-  pub nonzone-fine : nonzoneRefusal s ≡ 0
-
 -- Both divisions of every zone before zone z are fine.
 pub record FineBefore (s : Service) (z : ℕ) : Type 0 where
   pub splits : (y : ℕ) → y < z → splitRefusal s y ≡ 0
   pub shares : (y : ℕ) → y < z → shareRefusal s y ≡ 0
+
+-- A service is accepted where every division of it is fine.
+pub record Accepted (s : Service) : Type 0 where
+  pub zones-fine : FineBefore s (s .zones)
+  pub nonzone-fine : nonzoneRefusal s ≡ 0
 
 -- Where a service is refused and why, and that nothing before is: at the split of a zone, at its share, which is BASE, or at the
 -- non-zone pot's division, which is BIG.

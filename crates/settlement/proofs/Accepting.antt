@@ -33,6 +33,12 @@ use Rattle.settlement.specs.Settled.{
 use Rattle.settlement.specs.Accepted.{Good, ZonesFine, NetworkFine, Accepted}
 use Rattle.settlement.specs.Refused.{Refused, by-tables, at-zone, at-nonzone, in-black-start, in-reactive}
 
+pub network-accepts : (m : Input) → NetworkFine m → networkInTurn m ≡ accepted
+unfolding networkInTurn
+network-accepts m fine =
+    onward (all-accepted (networkPots m) networkPlace (fine .zones-fine))
+    (refuse-none (nonzoneRefusal m) divisions (nonzonePlace (zoneCount m)) (fine .nonzone-fine))
+
 module _ (m : Input) (lentCharges lentCredits : ℕ) where
   abbrev Why : Answer → Type 0
   Why = Refused m lentCharges lentCredits
@@ -117,19 +123,11 @@ module _ (m : Input) (lentCharges lentCredits : ℕ) where
   pub tables-accept : Good m lentCharges lentCredits → judged (m .month) (m .days) (m .nonzone) (m .tables) lentCharges lentCredits ≡ accepted
   tables-accept = good-unrefused (m .month) (m .days) (m .nonzone) (m .tables) lentCharges lentCredits
 
-  pub zones-accept : ZonesFine m (zoneCount m) → groups.groupsInTurn (networkPots m) networkPlace ≡ accepted
-  zones-accept = all-accepted (networkPots m) networkPlace
-
-  pub network-accepts : NetworkFine m → networkInTurn m ≡ accepted
-  unfolding networkInTurn
-  network-accepts fine =
-      onward (zones-accept (fine .zones-fine)) (refuse-none (nonzoneRefusal m) divisions (nonzonePlace (zoneCount m)) (fine .nonzone-fine))
-
   pub accepted-answer : Accepted m lentCharges lentCredits → answerOf m lentCharges lentCredits ≡ accepted
   unfolding answerOf divisionsInTurn
   accepted-answer a =
       onward (tables-accept (a .good))
       (onward
-      (onward (network-accepts (a .network-fine))
+      (onward (network-accepts m (a .network-fine))
       (fine-accepted (serviceIn m blackStart) (blackStartPlace (zoneCount m)) (a .service-fine blackStart (inl refl))))
       (fine-accepted (serviceIn m reactive) (reactivePlace (zoneCount m)) (a .service-fine reactive (inr refl))))

@@ -20,6 +20,7 @@ use Rattle.answer.proofs.Turns.{refuse-none, refuse-some, refuse-number, turns-
 use Rattle.division.specs.Refused.{SizeRefused}
 use Rattle.division.proofs.Laws.{why-size}
 use Rattle.groups.specs.Groups as groups
+use Rattle.groups.proofs.Laws.{all-accepted}
 use Rattle.service.specs.Turn as service
 use Rattle.service.proofs.Turns.{fine-accepted, refused-exactly}
 use Rattle.tables.specs.Shape.{chargeWidth, creditWidth}
@@ -33,7 +34,7 @@ use Rattle.pool.specs.Services.{serviceIn}
 use Rattle.settlement.specs.Settled.{networkPlace, nonzonePlace, blackStartPlace, reactivePlace, laid, networkInTurn, divisionsInTurn, answerOf, chargeOf, creditOf, chargeWords, creditWords, Settled}
 use Rattle.settlement.specs.Accepted.{ZonesFine, Accepted}
 use Rattle.settlement.specs.Refused.{Refused, by-tables, at-zone, at-nonzone, in-black-start, in-reactive, Places}
-use Rattle.settlement.proofs.Accepting.{answer-accepted, answer-why, tables-accept, zones-accept, network-accepts}
+use Rattle.settlement.proofs.Accepting.{answer-accepted, answer-why, tables-accept, network-accepts}
 
 module _ (m : Input) (lentCharges lentCredits : ℕ) where
   abbrev zones-answer : Answer
@@ -93,17 +94,17 @@ module _ (m : Input) (lentCharges lentCredits : ℕ) where
           onward (tables-accept m lentCharges lentCredits good)
           (stays d reactive-answer
           (stays d black-start-answer
-          (onward (zones-accept m lentCharges lentCredits zones)
+          (onward (all-accepted (networkPots m) networkPlace zones)
           (ap (λ k. refuse k divisions (zoneCount m)) (nonzone-is n w .0) ∙ refuse-some n divisions (zoneCount m) (nonzone-is n w .1) ∙ sym e))))
       go (in-black-start good network w) d =
           onward (tables-accept m lentCharges lentCredits good)
           (stays d reactive-answer
-          (onward (network-accepts m lentCharges lentCredits network)
+          (onward (network-accepts m network)
           (refused-exactly (serviceIn m blackStart) (blackStartPlace (zoneCount m)) r .0 w .0)))
       go (in-reactive good network first w) d =
           onward (tables-accept m lentCharges lentCredits good)
           (onward
-          (onward (network-accepts m lentCharges lentCredits network) (fine-accepted (serviceIn m blackStart) (blackStartPlace (zoneCount m)) first))
+          (onward (network-accepts m network) (fine-accepted (serviceIn m blackStart) (blackStartPlace (zoneCount m)) first))
           (refused-exactly (serviceIn m reactive) (reactivePlace (zoneCount m)) r .0 w .0))
 
   pub answer-exactly : (r : Answer) → Refused m lentCharges lentCredits r ↔ ((answerOf m lentCharges lentCredits ≡ r) × (r .number ≢ 0))

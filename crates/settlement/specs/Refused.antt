@@ -22,7 +22,7 @@ module _ (m : Input) (lentCharges lentCredits : ℕ) where
   pub data Refused (r : Answer) : Type 0 where
     -- an input that the tables' rules refuse
     by-tables : judgement.Refused (m .month) (m .days) (m .nonzone) (m .tables) lentCharges lentCredits r → Refused r
-    -- "network zones 0..k-1"
+    -- "network zones 0..k-1", "each BIG, then BASE"
     at-zone : Good m lentCharges lentCredits → (z n : ℕ) → z < zoneCount m → ZonesFine m z
         → SizeRefused (chargesIn m (zoneNumber (m .tables .zones) z)) (total (weightsIn (networkPots m) z)) n → r ≡ refusal n divisions z → Refused r
     -- "network non-zone k"
