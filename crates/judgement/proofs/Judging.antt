@@ -2,26 +2,26 @@
 -- Assumes nothing.
 use mathlib.Core.Path.{_≡_, refl, sym, ap, _∙_}
 use mathlib.Core.Logic.{⊎-elim, _≢_}
-use mathlib.Core.Bool.{Bool, true, false, true≢false, not}
-use Prim.Native.Nat.{ℕ, _*_, _%_, _≤_, _<_}
+use mathlib.Core.Bool.{Bool, true, false, not}
+use Prim.Native.Nat.{ℕ, _*_, _≤_, _<_}
 use native.Mathlib.Omega.{arith}
 use lib.ListN.{length}
 use Rattle.answer.specs.declared.Answer.{Answer}
 use Rattle.answer.specs.Numbers.{COUNT, ROOM, MONTH, RANGE, head, charges, credits}
-use Rattle.answer.specs.Turns.{look, accepted, refuse, first, refusal}
+use Rattle.answer.specs.Turns.{look, refuse, first, refusal}
 use Rattle.answer.proofs.Turns.{zero-or-not, first-none, first-all, first-refused, RefusedAt}
 use Rattle.month.specs.Limits.{mostRate}
 use Rattle.month.specs.Months.{isMonth}
 use Rattle.tables.specs.declared.Table.{Table}
 use Rattle.tables.specs.declared.Table.the-variants.{Owners, Accounts}
-use Rattle.tables.specs.Shape.{number, width, limit, chargeWidth, creditWidth, rows, Tables, wordsOf}
+use Rattle.tables.specs.Shape.{number, chargeWidth, creditWidth, rows, Tables, wordsOf}
 use Rattle.rows.specs.Rows.{outside, rowOf}
 use Rattle.tables.specs.Counts.{counted, roomFor, inTurn, Counted}
 use Rattle.judgement.specs.Judgement.{headJudged, rowsJudged, judged}
 use Rattle.judgement.specs.Good.{GoodRow, GoodTable, Roomy, GoodFrame, GoodMonth}
 use Rattle.judgement.specs.Refused.{FirstBroken, by-range, by-order, by-link, by-pair, Refused, by-count, by-charges, by-credits, by-month, by-nonzone, by-row}
-use Rattle.tables.proofs.Tests.{reworded, both, at-least, equal}
-use Rattle.judgement.proofs.Keeping.{within}
+use Rattle.tables.proofs.Tests.{at-least}
+use Rattle.judgement.proofs.Keeping.{within, count-tested}
 use Rattle.judgement.proofs.Rulings.{Ruling, fine, broken, row-ruled}
 use Rattle.tables.proofs.Stages.{Stage, passed, stopped, passed-on, then-stage, refuse-stage, look-stage, in-turn-stage}
 
@@ -37,12 +37,6 @@ row-broken days t table i n e d = rw (← e) (go (row-ruled days t table i))
     go (fine z g) = absurd (d (sym e ∙ z))
     go (broken b w) = w
 
-row-not-both : (days : ℕ) (t : Tables) (table : Table) (i n : ℕ) → FirstBroken days t table i n → GoodRow days t table i → ⊥
-row-not-both days t table i n (by-range e out) good = out (good .in-range)
-row-not-both days t table i n (by-order e r not-above) good = not-above (good .ascending)
-row-not-both days t table i n (by-link e r o missing) good = missing (good .linked)
-row-not-both days t table i n (by-pair e r o l taken) good = taken (good .unpaired)
-
 module _ (month days nonzone : ℕ) (t : Tables) (lentCharges lentCredits : ℕ) where
   abbrev Why : Answer → Type 0
   Why = Refused month days nonzone t lentCharges lentCredits
@@ -53,8 +47,7 @@ module _ (month days nonzone : ℕ) (t : Tables) (lentCharges lentCredits : ℕ)
       in-turn-stage (Counted t) Why (λ table. counted table (length (wordsOf t table)))
       (λ table before.
       look-stage COUNT (number table) 0 (omega arith)
-      (reworded (λ p. record { whole = p .0; few = p .1 }) (λ r. (r .whole, r .few))
-      (both (equal (length (wordsOf t table) % width table) 0) (at-least (rows table (wordsOf t table)) (limit table))))
+      (count-tested t table)
       (by-count table refl before))
 
   charges-room : ((table : Table) → Counted t table) → Stage (rows Accounts (t .accounts) * chargeWidth ≤ lentCharges) Why (roomFor charges (rows Accounts (t .accounts) * chargeWidth) lentCharges)
@@ -131,15 +124,6 @@ module _ (month days nonzone : ℕ) (t : Tables) (lentCharges lentCredits : ℕ)
       elim judged-stage as (λ s. Why (judged month days nonzone t lentCharges lentCredits))
       [ passed q g ↦ absurd (bad (ap (λ (a : Answer). a .number) q)) | stopped d w ↦ w ]
 
-  -- no good month has what a refusal says
-  not-both : (a : Answer) → Why a → GoodMonth month days nonzone t lentCharges lentCredits → ⊥
-  not-both a (by-count table e before short) good = short (good .frame .counted table)
-  not-both a (by-charges e all short) good = omega (arith, good .frame .roomy .charges-fit)
-  not-both a (by-credits e all fit short) good = omega (arith, good .frame .roomy .credits-fit)
-  not-both a (by-month e all roomy bad) good = true≢false (sym (good .frame .month-known) ∙ bad)
-  not-both a (by-nonzone e all roomy m high) good = omega (arith, good .frame .nonzone-in-range .most)
-  not-both a (by-row table i n e at) good = row-not-both days t table i n (at .broken) (good .tables table i (at .is-row))
-
   -- what is refused with MONTH is no month
   broken-not-month : (table : Table) (i n : ℕ) → FirstBroken days t table i n → n ≢ MONTH
   broken-not-month table i n (by-range e out) z = omega arith
@@ -154,8 +138,3 @@ module _ (month days nonzone : ℕ) (t : Tables) (lentCharges lentCredits : ℕ)
   month-why a (by-month e all roomy bad) z = bad
   month-why a (by-nonzone e all roomy m high) z = absurd (omega (arith, ap (λ (b : Answer). b .number) e))
   month-why a (by-row table i n e at) z = absurd (broken-not-month table i n (at .broken) (sym (ap (λ (b : Answer). b .number) e) ∙ z))
-
-  pub good-unrefused : GoodMonth month days nonzone t lentCharges lentCredits → judged month days nonzone t lentCharges lentCredits ≡ accepted
-  good-unrefused good =
-      elim judged-stage as (λ s. judged month days nonzone t lentCharges lentCredits ≡ accepted)
-      [ passed q g ↦ q | stopped d w ↦ absurd (not-both (judged month days nonzone t lentCharges lentCredits) w good) ]

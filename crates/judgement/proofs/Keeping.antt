@@ -1,25 +1,39 @@
--- Each look of a row finds its fault exactly where the row breaks the rule.
+-- Each look finds its fault exactly where a table or a row breaks the rule.
 -- Assumes nothing.
 use mathlib.Core.Path.{_≡_, refl, sym, subst, _∙_}
 use mathlib.Core.Logic.{_⊎_, inl, inr, ⊎-elim, _≢_}
 use mathlib.Core.Bool.{Bool, true, false, true≢false, not, cond, _&&_, _||_}
 use mathlib.Core.List.{List}
-use Prim.Native.Nat.{ℕ, _+_, _-_, _≤_, _<_}
+use Prim.Native.Nat.{ℕ, _+_, _-_, _%_, _≤_, _<_}
 use native.Mathlib.Omega.{arith}
 use lib.Dec.{ltb, eqb}
+use lib.ListN.{length}
 use borrow.Author.Tests.{lt-ltb, le-ltb, eqb-true, eqb-false, eq-eqb, ne-eqb, not-false}
 use Rattle.lists.specs.Sums.{any}
-use Rattle.lists.proofs.Ranks.{lt-or-le, equal-or-not}
+use Rattle.lists.proofs.Ranks.{lt-or-le, equal-or-not, true-or-false}
 use Rattle.lists.proofs.Search.{any-found, none-at, none-from}
 use Rattle.answer.proofs.Turns.{zero-or-not}
 use Rattle.tables.specs.declared.Table.{Table}
-use Rattle.tables.specs.Shape.{rows}
+use Rattle.tables.specs.Shape.{width, limit, rows, Tables, wordsOf}
+use Rattle.tables.specs.Counts.{Counted}
 use Rattle.tables.specs.Columns.{entry, accountCustomer, accountZone, loadAccount, loadDay}
 use Rattle.tables.specs.Limits.{reactive, mostReserve, reserveLimit}
 use Rattle.rows.specs.Rows.{outside, notAbove, byFirst, byAccountAndDay, names, unknown, samePair, taken}
 use Rattle.judgement.specs.Good.{Within, FirstAbove, LoadAbove, Known, OwnPair}
 use Rattle.rows.proofs.Looks.{first-row, later-row, row-found}
-use Rattle.tables.proofs.Tests.{Tests, reworded, both, at-least, less}
+use Rattle.tables.proofs.Tests.{Tests, reworded, both, at-least, equal, less}
+
+-- where a rule is broken, its fault is there
+pub faulty : {Rule : Type 0} {fault : Bool} → Tests Rule fault → ¬ Rule → fault ≡ true
+faulty {Rule} {fault} test broken =
+    ⊎-elim (λ (e : fault ≡ true). e) (λ (e : fault ≡ false). absurd (broken (test .holds e))) (true-or-false fault)
+
+-- COUNT
+pub count-tested : (t : Tables) (table : Table)
+    → Tests (Counted t table) (not (eqb (length (wordsOf t table) % width table) 0) || ltb (limit table) (rows table (wordsOf t table)))
+count-tested t table =
+    reworded (λ p. record { whole = p .0; few = p .1 }) (λ r. (r .whole, r .few))
+    (both (equal (length (wordsOf t table) % width table) 0) (at-least (rows table (wordsOf t table)) (limit table)))
 
 -- RANGE
 pub within : (low high x : ℕ) → Tests (Within low high x) (outside low high x)

@@ -20,7 +20,8 @@ use Rattle.judgement.specs.Good.{Within, Above, Known, Linked, GoodRow, 
 use Rattle.tables.specs.Counts.{Counted}
 use Rattle.judgement.specs.Refused.{Refused}
 use Rattle.judgement.proofs.Ascents.{climb, above-transitive}
-use Rattle.judgement.proofs.Judging.{judged-good, judged-why, month-why, good-unrefused}
+use Rattle.judgement.proofs.Judging.{judged-good, judged-why, month-why}
+use Rattle.judgement.proofs.Reasons.{good-unrefused, judged-exactly}
 
 module _ (month days nonzone : ℕ) (t : Tables) (lentCharges lentCredits : ℕ) where
   -- what is accepted is a good month ..
@@ -35,9 +36,10 @@ module _ (month days nonzone : ℕ) (t : Tables) (lentCharges lentCredits : ℕ)
   pub good-accepted : GoodMonth month days nonzone t lentCharges lentCredits → judged month days nonzone t lentCharges lentCredits ≡ accepted
   good-accepted good = good-unrefused month days nonzone t lentCharges lentCredits good
 
-  -- a refusal names the first rule that is broken, and where; all that is looked at earlier is right
-  pub refused-why : judged month days nonzone t lentCharges lentCredits .number ≢ 0 → Refused month days nonzone t lentCharges lentCredits (judged month days nonzone t lentCharges lentCredits)
-  refused-why bad = judged-why month days nonzone t lentCharges lentCredits bad
+  -- a month is refused with an answer exactly when that names the first rule that is broken, and where: all that is looked at
+  -- earlier is right
+  pub refused-exactly : (a : Answer) → Refused month days nonzone t lentCharges lentCredits a ↔ ((judged month days nonzone t lentCharges lentCredits ≡ a) × (a .number ≢ 0))
+  refused-exactly = judged-exactly month days nonzone t lentCharges lentCredits
 
   -- before any row is looked at, all is right exactly where tables and outputs are, the month is the calendar's and the rate in range
   pub frame-exactly : GoodFrame month days nonzone t lentCharges lentCredits
@@ -59,7 +61,7 @@ module _ (month days nonzone : ℕ) (t : Tables) (lentCharges lentCredits : ℕ)
       true≢false
       (sym (month-exactly month days .1 known)
       ∙ month-why month days nonzone t lentCharges lentCredits (judged month days nonzone t lentCharges lentCredits)
-      (refused-why (λ z. omega arith)) e)
+      (judged-why month days nonzone t lentCharges lentCredits (λ z. omega arith)) e)
 
 -- "Zones, owners, units, accounts and reservations strictly ascend by their first entry, loads by account, then day"
 pub strictly-ascend : (days : ℕ) (t : Tables) (table : Table) → GoodTable days t table → (i j : ℕ) → i < j → j < rows table (wordsOf t table) → Above t table i j

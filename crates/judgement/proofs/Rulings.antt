@@ -1,6 +1,6 @@
 -- A row's number says which of its rules is the first that is broken. For each table the four looks are the tests of its four rules.
 -- Assumes nothing.
-use mathlib.Core.Path.{_≡_, refl}
+use mathlib.Core.Path.{_≡_, refl, sym}
 use mathlib.Core.Logic.{_≢_}
 use mathlib.Core.Bool.{Bool, true, false}
 use mathlib.Core.List.{List}
@@ -37,7 +37,7 @@ use Rattle.rows.specs.Rows.{rowNumber, notAbove, byFirst, byAccountAndDay, zone
 use Rattle.judgement.specs.Good.{ZoneInRange, OwnerInRange, UnitInRange, AccountInRange, LoadInRange, ReservationInRange, InRange, FirstAbove, Ascending, Linked, Unpaired, GoodRow}
 use Rattle.judgement.specs.Refused.{FirstBroken, by-range, by-order, by-link, by-pair}
 use Rattle.tables.proofs.Tests.{Tests, breaks, reworded, no-rule, both}
-use Rattle.judgement.proofs.Keeping.{within, reserve, above-before, first-above, load-above, known, unless-zero, own-pair}
+use Rattle.judgement.proofs.Keeping.{faulty, within, reserve, above-before, first-above, load-above, known, unless-zero, own-pair}
 
 -- RANGE, table by table
 zone-range : (zones : List ℕ) (i : ℕ) → Tests (ZoneInRange zones i) (zoneOutside zones i)
@@ -159,3 +159,33 @@ pub row-ruled : (days : ℕ) (t : Tables) (table : Table) (i : ℕ) → Ruling d
 unfolding rowIn
 row-ruled days t table i =
     ruled days t table i (range-tested days t table i) (order-tested t table i) (link-tested t table i) (pair-tested t table i)
+
+-- a good row is numbered 0, and a row is numbered by the first rule that is broken
+module _ (days : ℕ) (t : Tables) (table : Table) (i : ℕ) where
+  numbered : {range order link pair : Bool} (n : ℕ) → Tests (InRange days t table i) range → Tests (Ascending t table i) order → Tests (Linked t table i) link → Tests (Unpaired t table i) pair
+      → FirstBroken days t table i n → rowNumber range order link pair ≡ n
+  unfolding rowNumber
+  numbered n r o l p (by-range e out) = rw (faulty r out) (sym e)
+  numbered n r o l p (by-order e g out) = rw (r .kept g, faulty o out) (sym e)
+  numbered n r o l p (by-link e g h out) = rw (r .kept g, o .kept h, faulty l out) (sym e)
+  numbered n r o l p (by-pair e g h k out) = rw (r .kept g, o .kept h, l .kept k, faulty p out) (sym e)
+
+  pub row-number : (n : ℕ) → FirstBroken days t table i n → rowOf days t table i ≡ n
+  unfolding rowIn
+  row-number n = numbered n (range-tested days t table i) (order-tested t table i) (link-tested t table i) (pair-tested t table i)
+
+  pub row-fine : GoodRow days t table i → rowOf days t table i ≡ 0
+  unfolding rowIn rowNumber
+  row-fine good =
+      rw (
+        range-tested days t table i .kept (good .in-range),
+        order-tested t table i .kept (good .ascending),
+        link-tested t table i .kept (good .linked),
+        pair-tested t table i .kept (good .unpaired),
+      )
+
+  pub broken-number : (n : ℕ) → FirstBroken days t table i n → n ≢ 0
+  broken-number n (by-range e out) z = omega arith
+  broken-number n (by-order e r not-above) z = omega arith
+  broken-number n (by-link e r o missing) z = omega arith
+  broken-number n (by-pair e r o l taken) z = omega arith

@@ -59,7 +59,7 @@ module _ (s : Service) (z : ℕ) (fine : splitRefusal s z ≡ 0) where
   unfolding nonzoneSide uses
   no-nonzone-use e = no-weight-no-share (s .pot z) (uses s) base 1 (lit< tt) e
 
-  zone-side-fits : zoneSide s z ≤ potLimit
+  pub zone-side-fits : zoneSide s z ≤ potLimit
   unfolding zoneSide splitRefusal
   zone-side-fits = share-fits (s .pot z) (uses s) fine 0
 

@@ -9,19 +9,21 @@ use native.Mathlib.Nat.{zero-add}
 use native.Mathlib.Omega.{arith}
 use lib.Dec.{eqb, ltb}
 use borrow.Author.Tests.{eq-eqb, ne-eqb, lt-ltb, ltb-false}
-use Rattle.lists.specs.Sums.{sumTo, at, when, count}
+use Rattle.lists.specs.Sums.{sumTo, at, total, when, count}
 use Rattle.lists.specs.Entries.{kept}
 use Rattle.lists.proofs.Sums.{sum-eq, sum-add}
 use Rattle.lists.proofs.Ranks.{lt-or-le}
 use Rattle.answer.specs.declared.Answer.{Answer}
 use Rattle.answer.specs.Numbers.{BIG, BASE}
+use Rattle.answer.specs.Turns.{accepted}
 use Rattle.division.specs.Shares.{shares}
-use Rattle.groups.specs.Groups.{alone, amounts}
+use Rattle.groups.specs.Groups.{weightsIn, refusal, alone, amounts}
 use Rattle.groups.proofs.Members.{share-alone}
 use Rattle.groups.proofs.Laws.{pots-divided, members-have-all, others-none, weightless-none-at-all, from-own-group, groupless-none, amount-alone}
 use Rattle.service.specs.Service.{
   Service,
   nonzoneUse,
+  uses,
   zoneSide,
   nonzoneSide,
   zoneSides,
@@ -31,13 +33,33 @@ use Rattle.service.specs.Service.{
   nonzoneShare,
   serviceCharge,
 }
-use Rattle.service.specs.Turn.{splitRefusal, shareRefusal, nonzoneRefusal, serviceInTurn, Accepted, RefusedAt}
+use Rattle.service.specs.Turn.{splitRefusal, shareRefusal, nonzoneRefusal, serviceInTurn, FineSize, Accepted, RefusedAt}
 use Rattle.service.proofs.Laws as laws
 use Rattle.service.proofs.Turns as turns
 
--- a service is accepted exactly where every division of it is fine
-pub accepted-exactly : (s : Service) (place : ℕ) → (serviceInTurn s place .number ≡ 0) ↔ Accepted s
-accepted-exactly s place = (turns.accepted-fine s place, λ all. ap (λ (r : Answer). r .number) (turns.fine-accepted s place all))
+-- a service is accepted, with 0, 0, 0, exactly where every division of it is fine ..
+pub accepted-exactly : (s : Service) (place : ℕ) → (serviceInTurn s place ≡ accepted) ↔ Accepted s
+accepted-exactly s place = (
+  (λ e. turns.accepted-fine s place (ap (λ (r : Answer). r .number) e)),
+  turns.fine-accepted s place,
+)
+
+-- .. and refused with an answer exactly when that is of the first that is not; at a share it is BASE, at the non-zone pot BIG
+pub refused-exactly : (s : Service) (place : ℕ) (r : Answer) → RefusedAt s place r ↔ ((serviceInTurn s place ≡ r) × (r .number ≢ 0))
+refused-exactly = turns.refused-exactly
+
+-- a split, a share and the non-zone pot's division are fine exactly where pot and weights are within their limits and a pot has a base
+pub split-fine-exactly : (s : Service) (z : ℕ) → (splitRefusal s z ≡ 0) ↔ FineSize (s .pot z) (total (uses s))
+unfolding splitRefusal
+split-fine-exactly s z = turns.size-exactly (s .pot z) (total (uses s))
+
+pub share-fine-exactly : (s : Service) (z : ℕ) → (shareRefusal s z ≡ 0) ↔ FineSize (zoneSide s z) (total (weightsIn (zoneSides s) z))
+unfolding shareRefusal refusal
+share-fine-exactly s z = turns.size-exactly (zoneSide s z) (total (weightsIn (zoneSides s) z))
+
+pub nonzone-fine-exactly : (s : Service) → (nonzoneRefusal s ≡ 0) ↔ FineSize (nonzonePot s) (total (nonzoneParts s))
+unfolding nonzoneRefusal
+nonzone-fine-exactly s = turns.size-exactly (nonzonePot s) (total (nonzoneParts s))
 
 -- the two sides of a zone's pot are its division by all zone use and all non-zone use ..
 pub split-by-uses : (s : Service) (z : ℕ)
@@ -47,14 +69,14 @@ split-by-uses = laws.split-by-uses
 
 -- .. without loss
 pub split-without-loss : (s : Service) → Accepted s → (z : ℕ) → z < s .zones → zoneSide s z + nonzoneSide s z ≡ s .pot z
-split-without-loss s all z b = laws.sides-add-up s z (all .split-fine z b)
+split-without-loss s all z b = laws.sides-add-up s z (all .zones-fine .splits z b)
 
 -- all charges add up to all pots
 pub charges-are-pots : (s : Service) → Accepted s → sumTo (s .accounts) (serviceCharge s) ≡ sumTo (s .zones) (s .pot)
 unfolding serviceCharge nonzonePot shareRefusal
 charges-are-pots s all =
     sum-add (s .accounts) (amounts (zoneSides s)) (nonzoneShare s)
-    ∙ ap₂ _+_ (pots-divided (zoneSides s) (all .share-fine)) (laws.nonzone-add-up s (all .nonzone-fine))
+    ∙ ap₂ _+_ (pots-divided (zoneSides s) (all .zones-fine .shares)) (laws.nonzone-add-up s (all .nonzone-fine))
     ∙ sym (sum-add (s .zones) (zoneSide s) (nonzoneSide s))
     ∙ sum-eq (s .zones) (λ z. zoneSide s z + nonzoneSide s z) (s .pot) (split-without-loss s all)
 
@@ -62,13 +84,13 @@ charges-are-pots s all =
 pub zone-side-to-its-accounts : (s : Service) → Accepted s → (z : ℕ) → z < s .zones
     → sumTo (s .accounts) (λ a. when (eqb (s .zoneOf a) (s .zoneNumber z)) (zoneShare s z a)) ≡ zoneSide s z
 unfolding zoneShare shareRefusal
-zone-side-to-its-accounts s all z b = members-have-all (zoneSides s) z (all .share-fine z b)
+zone-side-to-its-accounts s all z b = members-have-all (zoneSides s) z (all .zones-fine .shares z b)
 
 -- .. and nobody else has a share of it
 pub zone-side-to-nobody-else : (s : Service) → Accepted s → (z a : ℕ) → z < s .zones → a < s .accounts
     → s .zoneOf a ≢ s .zoneNumber z → zoneShare s z a ≡ 0
 unfolding zoneShare shareRefusal
-zone-side-to-nobody-else s all z a b l d = others-none (zoneSides s) z (all .share-fine z b) a l (ne-eqb (s .zoneOf a) (s .zoneNumber z) d)
+zone-side-to-nobody-else s all z a b l d = others-none (zoneSides s) z (all .zones-fine .shares z b) a l (ne-eqb (s .zoneOf a) (s .zoneNumber z) d)
 
 -- the non-zone sides are fully charged to the accounts that have a non-zone part ..
 pub nonzone-sides-to-nonzone-parts : (s : Service) → Accepted s
@@ -85,7 +107,7 @@ pub idle-account-is-free : (s : Service) → Accepted s → (a : ℕ) → a < s 
     → s .zonePart a ≡ 0 → s .nonzonePart a ≡ 0 → serviceCharge s a ≡ 0
 unfolding serviceCharge shareRefusal
 idle-account-is-free s all a b e f =
-    ap₂ _+_ (weightless-none-at-all (zoneSides s) (all .share-fine) a b e) (laws.nonzone-none s (all .nonzone-fine) a b f)
+    ap₂ _+_ (weightless-none-at-all (zoneSides s) (all .zones-fine .shares) a b e) (laws.nonzone-none s (all .nonzone-fine) a b f)
 
 -- an account pays its share of its own zone's side and of the non-zone pot, where no two zones have one number ..
 pub charge-in-a-zone : (s : Service) → Accepted s → (a z : ℕ) → a < s .accounts → z < s .zones → s .zoneOf a ≡ s .zoneNumber z
@@ -93,7 +115,7 @@ pub charge-in-a-zone : (s : Service) → Accepted s → (a z : ℕ) → a < s .a
 unfolding serviceCharge zoneShare shareRefusal
 charge-in-a-zone s all a z b l e distinct =
     ap (λ n. n + nonzoneShare s a)
-    (from-own-group (zoneSides s) (all .share-fine) a z b l (eq-eqb (s .zoneOf a) (s .zoneNumber z) e) distinct)
+    (from-own-group (zoneSides s) (all .zones-fine .shares) a z b l (eq-eqb (s .zoneOf a) (s .zoneNumber z) e) distinct)
 
 -- .. and an account of no zone pays its share of the non-zone pot
 pub charge-at-the-border : (s : Service) → Accepted s → (a : ℕ) → a < s .accounts
@@ -101,7 +123,7 @@ pub charge-at-the-border : (s : Service) → Accepted s → (a : ℕ) → a < s 
 unfolding serviceCharge shareRefusal
 charge-at-the-border s all a b none =
     ap (λ n. n + nonzoneShare s a)
-    (groupless-none (zoneSides s) (all .share-fine) a b (λ z l. ne-eqb (s .zoneOf a) (s .zoneNumber z) (none z l)))
+    (groupless-none (zoneSides s) (all .zones-fine .shares) a b (λ z l. ne-eqb (s .zoneOf a) (s .zoneNumber z) (none z l)))
     ∙ zero-add (nonzoneShare s a)
 
 -- "zone 0": where no zone has that number, an account in it has no part in any zone side ..
@@ -122,7 +144,7 @@ pub zone-share-among-its-accounts : (s : Service) → Accepted s → (z a : ℕ)
     (count a (λ b. eqb (s .zoneOf b) (s .zoneNumber z)))
 unfolding zoneShare shareRefusal alone
 zone-share-among-its-accounts s all z a b l e =
-    amount-alone (zoneSides s) z (all .share-fine z b) a l (eq-eqb (s .zoneOf a) (s .zoneNumber z) e)
+    amount-alone (zoneSides s) z (all .zones-fine .shares z b) a l (eq-eqb (s .zoneOf a) (s .zoneNumber z) e)
 
 -- .. and likewise the accounts that have a non-zone part, "zone 0's accounts"
 pub nonzone-share-among-its-accounts : (s : Service) → Accepted s → (a : ℕ) → a < s .accounts → 0 < s .nonzonePart a
@@ -151,7 +173,3 @@ nonzone-pot-has-use s fine some =
 pub nonzone-never-base : (s : Service) → ((z : ℕ) → z < s .zones → splitRefusal s z ≡ 0) → nonzoneRefusal s ≢ BASE
 nonzone-never-base s fine base =
     ⊎-elim (λ (e : nonzoneRefusal s ≡ 0). omega arith) (λ (e : nonzoneRefusal s ≡ BIG). omega arith) (laws.nonzone-fine-or-big s fine)
-
--- a refused service says at which division, and every one before it is fine; at a share it is BASE, at the non-zone pot BIG
-pub refused-where : (s : Service) (place : ℕ) → serviceInTurn s place .number ≢ 0 → RefusedAt s place (serviceInTurn s place)
-refused-where = turns.refused-where

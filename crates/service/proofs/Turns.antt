@@ -1,13 +1,20 @@
 -- A service is accepted exactly where every division of it is fine, and a refusal is that of the first that is not.
 -- Assumes nothing.
-use mathlib.Core.Path.{_≡_, sym, ap, _∙_}
-use mathlib.Core.Logic.{⊎-elim, _≢_}
+use mathlib.Core.Path.{_≡_, refl, sym, ap, _∙_, subst}
+use mathlib.Core.Logic.{_⊎_, _↔_, ⊎-elim, _≢_}
 use Prim.Native.Nat.{ℕ, _<_}
+use native.Mathlib.Omega.{arith}
+use Rattle.lists.specs.Sums.{total}
 use Rattle.answer.specs.declared.Answer.{Answer}
 use Rattle.answer.specs.Numbers.{BIG, BASE, divisions}
 use Rattle.answer.specs.Turns.{accepted, refuse, turns}
-use Rattle.answer.proofs.Turns.{zero-or-not, then-first, then-second, then-none, refuse-none, refuse-some, refuse-number, turns-none, turns-all, turns-refused, StoppedAt}
-use Rattle.service.specs.Service.{Service}
+use Rattle.answer.specs.Turns as answer
+use Rattle.answer.proofs.Turns.{zero-or-not, then-first, then-second, then-none, refuse-none, refuse-some, refuse-number, turns-none, turns-all, turns-stop, turns-refused, StoppedAt}
+use Rattle.division.specs.Limits.{potLimit, weightLimit, sizeRefusal}
+use Rattle.division.specs.Refused.{SizeRefused, by-big, by-base}
+use Rattle.division.proofs.Laws.{size-why, why-size, fits-size, size-accepted}
+use Rattle.groups.specs.Groups.{weightsIn, refusal}
+use Rattle.service.specs.Service.{Service, uses, zoneSide, zoneSides, nonzonePot, nonzoneParts}
 use Rattle.service.specs.Turn.{
   splitRefusal,
   shareRefusal,
@@ -17,6 +24,7 @@ use Rattle.service.specs.Turn.{
   nonzonePlace,
   zoneTurn,
   serviceInTurn,
+  FineSize,
   Accepted,
   FineBefore,
   RefusedAt,
@@ -25,7 +33,48 @@ use Rattle.service.specs.Turn.{
   at-nonzone,
 }
 use Rattle.service.proofs.Charging.{fine-turn, turn-fine}
-use Rattle.service.proofs.Laws.{share-fine-or-base, nonzone-fine-or-big}
+use Rattle.service.proofs.Laws.{zone-side-fits, share-fine-or-base, nonzone-fine-or-big}
+
+-- what a number of a division says in plain words
+only-big : {pot w n : ℕ} → SizeRefused pot w n → n ≡ BIG → (potLimit < pot) ⊎ (weightLimit < w)
+only-big (by-big e over) q = over
+only-big (by-base e fits some none) q = absurd (omega arith)
+
+only-base : {pot w n : ℕ} → SizeRefused pot w n → n ≡ BASE → (0 < pot) × (w ≡ 0)
+only-base (by-big e over) q = absurd (omega arith)
+only-base (by-base e fits some none) q = (some, none)
+
+pub size-exactly : (pot w : ℕ) → (sizeRefusal pot w ≡ 0) ↔ FineSize pot w
+size-exactly pot w = (
+  (λ e. let known = size-accepted pot w e in record { pot-fits = known .0; weights-fit = known .1; has-base = known .2 }),
+  λ fine. fits-size pot w (fine .pot-fits) (fine .weights-fit) (fine .has-base),
+)
+
+module _ (s : Service) where
+  split-why : (z : ℕ) → splitRefusal s z ≢ 0 → SizeRefused (s .pot z) (total (uses s)) (splitRefusal s z)
+  unfolding splitRefusal
+  split-why z d = size-why (s .pot z) (total (uses s)) _ refl d
+
+  split-is : (z n : ℕ) → SizeRefused (s .pot z) (total (uses s)) n → splitRefusal s z ≡ n
+  unfolding splitRefusal
+  split-is z n why = why-size (s .pot z) (total (uses s)) n why .0
+
+  share-base : (z : ℕ) → shareRefusal s z ≡ BASE → (0 < zoneSide s z) × (total (weightsIn (zoneSides s) z) ≡ 0)
+  unfolding shareRefusal refusal
+  share-base z e = only-base (size-why (zoneSide s z) (total (weightsIn (zoneSides s) z)) BASE e (omega arith)) refl
+
+  share-is : (z : ℕ) → splitRefusal s z ≡ 0 → 0 < zoneSide s z → total (weightsIn (zoneSides s) z) ≡ 0 → shareRefusal s z ≡ BASE
+  unfolding shareRefusal refusal
+  share-is z fine some none =
+      why-size (zoneSide s z) (total (weightsIn (zoneSides s) z)) BASE (by-base refl (zone-side-fits s z fine) some none) .0
+
+  nonzone-big : nonzoneRefusal s ≡ BIG → (potLimit < nonzonePot s) ⊎ (weightLimit < total (nonzoneParts s))
+  unfolding nonzoneRefusal
+  nonzone-big e = only-big (size-why (nonzonePot s) (total (nonzoneParts s)) BIG e (omega arith)) refl
+
+  nonzone-is : (potLimit < nonzonePot s) ⊎ (weightLimit < total (nonzoneParts s)) → nonzoneRefusal s ≡ BIG
+  unfolding nonzoneRefusal
+  nonzone-is over = why-size (nonzonePot s) (total (nonzoneParts s)) BIG (by-big refl over) .0
 
 module _ (s : Service) (place : ℕ) where
   zones-fine : (turns (zoneTurn s place) (s .zones)) .number ≡ 0 → FineBefore s (s .zones)
@@ -35,14 +84,15 @@ module _ (s : Service) (place : ℕ) where
         shares = λ y b. fine-turn s place y (turns-all (zoneTurn s place) (s .zones) e y b) .1;
       }
 
+  zones-pass : (z : ℕ) → FineBefore s z → (y : ℕ) → y < z → zoneTurn s place y ≡ accepted
+  zones-pass z before y b = turn-fine s place y (before .splits y b) (before .shares y b)
+
   pub accepted-fine : serviceInTurn s place .number ≡ 0 → Accepted s
   unfolding serviceInTurn
   accepted-fine e =
       let parts = then-none (turns (zoneTurn s place) (s .zones)) (refuse (nonzoneRefusal s) divisions (nonzonePlace place s)) e in
-      let zones : FineBefore s (s .zones) = zones-fine (parts .0) in
       record {
-        split-fine = zones .splits;
-        share-fine = zones .shares;
+        zones-fine = zones-fine (parts .0);
         nonzone-fine = sym (refuse-number (nonzoneRefusal s) divisions (nonzonePlace place s)) ∙ parts .1;
       }
 
@@ -50,8 +100,7 @@ module _ (s : Service) (place : ℕ) where
   unfolding serviceInTurn
   fine-accepted a =
       then-second (turns (zoneTurn s place) (s .zones)) _
-      (ap (λ (r : Answer). r .number)
-      (turns-none (zoneTurn s place) (s .zones) (λ z b. turn-fine s place z (a .split-fine z b) (a .share-fine z b))))
+      (ap (λ (r : Answer). r .number) (turns-none (zoneTurn s place) (s .zones) (zones-pass (s .zones) (a .zones-fine))))
       ∙ refuse-none (nonzoneRefusal s) divisions (nonzonePlace place s) (a .nonzone-fine)
 
   -- the two divisions of a zone that is refused
@@ -68,12 +117,12 @@ module _ (s : Service) (place : ℕ) where
       ⊎-elim
       (λ (o : shareRefusal s z ≡ 0). absurd (number o))
       (λ (o : shareRefusal s z ≡ BASE).
-      at-share z b before fine o
-      (share ∙ refuse-some (shareRefusal s z) divisions (sharePlace place z) number
-      ∙ ap (λ (n : ℕ). record { number = n; table = divisions; row = sharePlace place z }) o))
+      let why = share-base s z o in
+      at-share z b before fine (why .0) (why .1)
+      (share ∙ ap (λ n. refuse n divisions (sharePlace place z)) o ∙ refuse-some BASE divisions (sharePlace place z) (omega arith)))
       (share-fine-or-base s z fine))
       (λ (o : splitRefusal s z ≢ 0).
-      at-split z b before o
+      at-split z (splitRefusal s z) b before (split-why s z o)
       (e
       ∙ then-first (refuse (splitRefusal s z) divisions (splitPlace place z)) _
       (λ n. o (sym (refuse-number (splitRefusal s z) divisions (splitPlace place z)) ∙ n))
@@ -93,9 +142,8 @@ module _ (s : Service) (place : ℕ) where
       ⊎-elim
       (λ (o : nonzoneRefusal s ≡ 0). absurd (number o))
       (λ (o : nonzoneRefusal s ≡ BIG).
-      at-nonzone before o
-      (last ∙ refuse-some (nonzoneRefusal s) divisions (nonzonePlace place s) number
-      ∙ ap (λ (n : ℕ). record { number = n; table = divisions; row = nonzonePlace place s }) o))
+      at-nonzone before (nonzone-big s o)
+      (last ∙ ap (λ n. refuse n divisions (nonzonePlace place s)) o ∙ refuse-some BIG divisions (nonzonePlace place s) (omega arith)))
       (nonzone-fine-or-big s (before .splits)))
       (λ (o : (turns (zoneTurn s place) (s .zones)) .number ≢ 0).
       let stopped : StoppedAt (zoneTurn s place) (s .zones) (turns (zoneTurn s place) (s .zones)) =
@@ -109,3 +157,52 @@ module _ (s : Service) (place : ℕ) where
       (then-first (turns (zoneTurn s place) (s .zones)) _ o ∙ stopped .its)
       bad)
       (zero-or-not ((turns (zoneTurn s place) (s .zones)) .number))
+
+  -- a reason that is so is what is answered: the zones before pass, and the division that it names does not
+  zone-stops : (z : ℕ) → z < s .zones → FineBefore s z → (r : Answer) → zoneTurn s place z ≡ r → r .number ≢ 0 → serviceInTurn s place ≡ r
+  unfolding serviceInTurn
+  zone-stops z b before r e d =
+      let stop : turns (zoneTurn s place) (s .zones) ≡ r =
+      turns-stop (zoneTurn s place) (s .zones) z b (zones-pass z before) (λ o. d (ap (λ (a : Answer). a .number) (sym e) ∙ o)) ∙ e in
+      then-first (turns (zoneTurn s place) (s .zones)) _ (λ o. d (ap (λ (a : Answer). a .number) (sym stop) ∙ o)) ∙ stop
+
+  split-stops : (z n : ℕ) → splitRefusal s z ≡ n → n ≢ 0 → zoneTurn s place z ≡ answer.refusal n divisions (splitPlace place z)
+  unfolding zoneTurn
+  split-stops z n e d =
+      then-first (refuse (splitRefusal s z) divisions (splitPlace place z)) _
+      (λ o. d (sym e ∙ sym (refuse-number (splitRefusal s z) divisions (splitPlace place z)) ∙ o))
+      ∙ ap (λ k. refuse k divisions (splitPlace place z)) e
+      ∙ refuse-some n divisions (splitPlace place z) d
+
+  share-stops : (z n : ℕ) → splitRefusal s z ≡ 0 → shareRefusal s z ≡ n → n ≢ 0 → zoneTurn s place z ≡ answer.refusal n divisions (sharePlace place z)
+  unfolding zoneTurn
+  share-stops z n fine e d =
+      then-second (refuse (splitRefusal s z) divisions (splitPlace place z)) _
+      (refuse-number (splitRefusal s z) divisions (splitPlace place z) ∙ fine)
+      ∙ ap (λ k. refuse k divisions (sharePlace place z)) e
+      ∙ refuse-some n divisions (sharePlace place z) d
+
+  nonzone-stops : FineBefore s (s .zones) → nonzoneRefusal s ≡ BIG → serviceInTurn s place ≡ answer.refusal BIG divisions (nonzonePlace place s)
+  unfolding serviceInTurn
+  nonzone-stops before e =
+      then-second (turns (zoneTurn s place) (s .zones)) _
+      (ap (λ (a : Answer). a .number) (turns-none (zoneTurn s place) (s .zones) (zones-pass (s .zones) before)))
+      ∙ ap (λ k. refuse k divisions (nonzonePlace place s)) e
+      ∙ refuse-some BIG divisions (nonzonePlace place s) (omega arith)
+
+  where-refused : (r : Answer) → RefusedAt s place r → (serviceInTurn s place ≡ r) × (r .number ≢ 0)
+  where-refused r (at-split z n b before why e) =
+      let d : n ≢ 0 = why-size (s .pot z) (total (uses s)) n why .1 in
+      let bad : r .number ≢ 0 = λ o. d (sym (ap (λ (a : Answer). a .number) e) ∙ o) in
+      (zone-stops z b before r (split-stops z n (split-is s z n why) d ∙ sym e) bad, bad)
+  where-refused r (at-share z b before fine some none e) =
+      let bad : r .number ≢ 0 = λ o. omega (arith, ap (λ (a : Answer). a .number) e) in
+      (zone-stops z b before r (share-stops z BASE fine (share-is s z fine some none) (omega arith) ∙ sym e) bad, bad)
+  where-refused r (at-nonzone before over e) =
+      (nonzone-stops before (nonzone-is s over) ∙ sym e, λ o. omega (arith, ap (λ (a : Answer). a .number) e))
+
+  pub refused-exactly : (r : Answer) → RefusedAt s place r ↔ ((serviceInTurn s place ≡ r) × (r .number ≢ 0))
+  refused-exactly r = (
+    where-refused r,
+    λ p. subst (RefusedAt s place) (p .0) (refused-where (λ z. p .1 (ap (λ (a : Answer). a .number) (sym (p .0)) ∙ z))),
+  )

@@ -1,17 +1,19 @@
 -- The divisions of one service in turn, their places, and what a call answers and writes.
 -- Assumes nothing.
 use mathlib.Core.Path.{_≡_}
-use mathlib.Core.Logic.{_≢_}
+use mathlib.Core.Logic.{_⊎_}
 use mathlib.Core.List.{List}
-use Prim.Native.Nat.{ℕ, _+_, _*_, _<_}
+use Prim.Native.Nat.{ℕ, _+_, _*_, _≤_, _<_}
 use Rattle.lists.specs.Sums.{total}
 use Rattle.answer.specs.declared.Answer.{Answer}
 use Rattle.answer.specs.Numbers.{BIG, BASE, divisions}
 use Rattle.answer.specs.Turns.{refuse, _then_, turns}
-use Rattle.division.specs.Limits.{sizeRefusal}
+use Rattle.answer.specs.Turns as answer
+use Rattle.division.specs.Limits.{potLimit, weightLimit, sizeRefusal}
+use Rattle.division.specs.Refused.{SizeRefused}
 use Rattle.groups.specs.Columns.{Written}
-use Rattle.groups.specs.Groups.{refusal}
-use Rattle.service.specs.Service.{Service, uses, zoneSides, nonzonePot, nonzoneParts, serviceCharge}
+use Rattle.groups.specs.Groups.{weightsIn, refusal}
+use Rattle.service.specs.Service.{Service, uses, zoneSide, zoneSides, nonzonePot, nonzoneParts, serviceCharge}
 
 -- "each BIG, then BASE": the number of zone z's split, 0 where it is fine ..
 unfoldable pub splitRefusal : Service → ℕ → ℕ
@@ -51,23 +53,28 @@ serviceInTurn s place = turns (zoneTurn s place) (s .zones) then refuse (nonzone
 abbrev pub Served : Service → ℕ → List ℕ → List ℕ → Answer → Type 0
 Served s place before after r = Written (s .accounts) (serviceCharge s) (serviceInTurn s place) before after r
 
--- A service is accepted where every division of it is fine.
-pub record Accepted (s : Service) : Type 0 where
-  pub split-fine : (z : ℕ) → z < s .zones → splitRefusal s z ≡ 0
-  pub share-fine : (z : ℕ) → z < s .zones → shareRefusal s z ≡ 0
-  pub nonzone-fine : nonzoneRefusal s ≡ 0
+-- What a division is that is fine: the pot "at most 10^11", the weights' sum "at most 10^13", and no pot where that is zero.
+pub record FineSize (pot w : ℕ) : Type 0 where
+  pub pot-fits : pot ≤ potLimit
+  pub weights-fit : w ≤ weightLimit
+  pub has-base : w ≡ 0 → pot ≡ 0
 
 -- Both divisions of every zone before zone z are fine.
 pub record FineBefore (s : Service) (z : ℕ) : Type 0 where
   pub splits : (y : ℕ) → y < z → splitRefusal s y ≡ 0
   pub shares : (y : ℕ) → y < z → shareRefusal s y ≡ 0
 
--- Where a service is refused, and that nothing before is: at the split of a zone, at its share, which is BASE, or at the non-zone
--- pot's division, which is BIG.
+-- A service is accepted where every division of it is fine.
+pub record Accepted (s : Service) : Type 0 where
+  pub zones-fine : FineBefore s (s .zones)
+  pub nonzone-fine : nonzoneRefusal s ≡ 0
+
+-- Where a service is refused and why, and that nothing before is: at the split of a zone, at its share, which is BASE, or at the
+-- non-zone pot's division, which is BIG.
 pub data RefusedAt (s : Service) (place : ℕ) (r : Answer) : Type 0 where
-  at-split : (z : ℕ) → z < s .zones → FineBefore s z → splitRefusal s z ≢ 0
-      → r ≡ record { number = splitRefusal s z; table = divisions; row = splitPlace place z } → RefusedAt s place r
-  at-share : (z : ℕ) → z < s .zones → FineBefore s z → splitRefusal s z ≡ 0 → shareRefusal s z ≡ BASE
-      → r ≡ record { number = BASE; table = divisions; row = sharePlace place z } → RefusedAt s place r
-  at-nonzone : FineBefore s (s .zones) → nonzoneRefusal s ≡ BIG
-      → r ≡ record { number = BIG; table = divisions; row = nonzonePlace place s } → RefusedAt s place r
+  at-split : (z n : ℕ) → z < s .zones → FineBefore s z → SizeRefused (s .pot z) (total (uses s)) n
+      → r ≡ answer.refusal n divisions (splitPlace place z) → RefusedAt s place r
+  at-share : (z : ℕ) → z < s .zones → FineBefore s z → splitRefusal s z ≡ 0 → 0 < zoneSide s z → total (weightsIn (zoneSides s) z) ≡ 0
+      → r ≡ answer.refusal BASE divisions (sharePlace place z) → RefusedAt s place r
+  at-nonzone : FineBefore s (s .zones) → (potLimit < nonzonePot s) ⊎ (weightLimit < total (nonzoneParts s))
+      → r ≡ answer.refusal BIG divisions (nonzonePlace place s) → RefusedAt s place r

@@ -1,19 +1,23 @@
--- The answer accepts exactly where the input is good and every division is fine.
+-- The answer is a stage: it passes where the input is good and every division is fine, and stops at the first look that is not.
 -- Assumes nothing.
 use mathlib.Core.Path.{_≡_, refl, sym, ap, subst, _∙_}
-use mathlib.Core.Logic.{inl, inr, ⊎-elim}
+use mathlib.Core.Logic.{_≢_, inl, inr, ⊎-elim}
 use Prim.Native.Nat.{ℕ}
+use native.Mathlib.Nat.{zero-add}
 use Rattle.answer.specs.declared.Answer.{Answer}
 use Rattle.answer.specs.Numbers.{divisions}
-use Rattle.answer.specs.Turns.{accepted, refuse, _then_}
-use Rattle.answer.proofs.Turns.{then-second, then-none, refuse-none, refuse-number}
+use Rattle.answer.specs.Turns.{accepted, refuse}
+use Rattle.answer.proofs.Turns.{zero-or-not, refuse-none}
+use Rattle.division.proofs.Laws.{size-why}
 use Rattle.groups.specs.Groups as groups
-use Rattle.groups.proofs.Laws.{accepted-all, all-accepted}
+use Rattle.groups.proofs.Laws.{accepted-all, all-accepted, RefusedGroup, refused-at}
 use Rattle.service.specs.Turn as service
-use Rattle.service.proofs.Turns.{accepted-fine, fine-accepted}
+use Rattle.service.proofs.Turns.{accepted-fine, fine-accepted, refused-where}
 use Rattle.tables.specs.Limits.{blackStart, reactive}
+use Rattle.tables.proofs.Stages.{Stage, passed, stopped, passed-on, then-stage, refuse-stage}
 use Rattle.judgement.specs.Judgement.{judged}
-use Rattle.judgement.proofs.Judging.{judged-good, good-unrefused}
+use Rattle.judgement.proofs.Judging.{judged-good, judged-why}
+use Rattle.judgement.proofs.Reasons.{onward, good-unrefused}
 use Rattle.pool.specs.Input.{Input, zoneCount}
 use Rattle.pool.specs.Network.{networkPots, nonzoneRefusal}
 use Rattle.pool.specs.Services.{serviceIn}
@@ -26,53 +30,104 @@ use Rattle.settlement.specs.Settled.{
   divisionsInTurn,
   answerOf,
 }
-use Rattle.settlement.specs.Accepted.{Accepted}
+use Rattle.settlement.specs.Accepted.{Good, ZonesFine, NetworkFine, Accepted}
+use Rattle.settlement.specs.Refused.{Refused, by-tables, at-zone, at-nonzone, in-black-start, in-reactive}
 
--- two answers in turn of which neither refuses
-both-accepted : {a b : Answer} → a ≡ accepted → b ≡ accepted → (a then b) ≡ accepted
-both-accepted {a} {b} e f = then-second a b (ap (λ (r : Answer). r .number) e) ∙ f
+pub network-accepts : (m : Input) → NetworkFine m → networkInTurn m ≡ accepted
+unfolding networkInTurn
+network-accepts m fine =
+    onward (all-accepted (networkPots m) networkPlace (fine .zones-fine))
+    (refuse-none (nonzoneRefusal m) divisions (nonzonePlace (zoneCount m)) (fine .nonzone-fine))
 
 module _ (m : Input) (lentCharges lentCredits : ℕ) where
-  tables-answer : Answer
-  tables-answer = judged (m .month) (m .days) (m .nonzone) (m .tables) lentCharges lentCredits
+  abbrev Why : Answer → Type 0
+  Why = Refused m lentCharges lentCredits
 
-  black-start-answer : Answer
-  black-start-answer = service.serviceInTurn (serviceIn m blackStart) (blackStartPlace (zoneCount m))
+  tables-stage : Stage (Good m lentCharges lentCredits) Why (judged (m .month) (m .days) (m .nonzone) (m .tables) lentCharges lentCredits)
+  tables-stage =
+      ⊎-elim
+      (λ (z : _ ≡ 0).
+      let good : Good m lentCharges lentCredits = judged-good (m .month) (m .days) (m .nonzone) (m .tables) lentCharges lentCredits z in
+      passed (good-unrefused (m .month) (m .days) (m .nonzone) (m .tables) lentCharges lentCredits good) good)
+      (λ (d : _ ≢ 0). stopped d (by-tables (judged-why (m .month) (m .days) (m .nonzone) (m .tables) lentCharges lentCredits d)))
+      (zero-or-not (judged (m .month) (m .days) (m .nonzone) (m .tables) lentCharges lentCredits .number))
 
-  reactive-answer : Answer
-  reactive-answer = service.serviceInTurn (serviceIn m reactive) (reactivePlace (zoneCount m))
+  module _ (good : Good m lentCharges lentCredits) where
+    zones-stage : Stage (ZonesFine m (zoneCount m)) Why (groups.groupsInTurn (networkPots m) networkPlace)
+    unfolding groups.refusal
+    zones-stage =
+        ⊎-elim
+        (λ (z : groups.groupsInTurn (networkPots m) networkPlace .number ≡ 0).
+        let fine : ZonesFine m (zoneCount m) = accepted-all (networkPots m) networkPlace z in
+        passed (all-accepted (networkPots m) networkPlace fine) fine)
+        (λ (d : groups.groupsInTurn (networkPots m) networkPlace .number ≢ 0).
+        let g : RefusedGroup (networkPots m) networkPlace (groups.groupsInTurn (networkPots m) networkPlace) = refused-at (networkPots m) networkPlace d in
+        stopped d
+        (at-zone good (g .group) (groups.refusal (networkPots m) (g .group)) (g .one-of-them) (g .earlier-fine)
+        (size-why _ _ _ refl (λ e. d (g .its-number ∙ e)))
+        (λ i. record { number = g .its-number i; table = g .its-table i; row = (g .its-place ∙ zero-add (g .group)) i })))
+        (zero-or-not (groups.groupsInTurn (networkPots m) networkPlace .number))
 
-  zones-answer : Answer
-  zones-answer = groups.groupsInTurn (networkPots m) networkPlace
+    nonzone-stage : ZonesFine m (zoneCount m) → Stage (NetworkFine m) Why (refuse (nonzoneRefusal m) divisions (nonzonePlace (zoneCount m)))
+    unfolding nonzoneRefusal
+    nonzone-stage fine =
+        refuse-stage (nonzoneRefusal m) divisions (zoneCount m) (λ z. record { zones-fine = fine; nonzone-fine = z })
+        (λ d. at-nonzone good (nonzoneRefusal m) fine (size-why _ _ _ refl d) refl)
 
-  nonzone-answer : Answer
-  nonzone-answer = refuse (nonzoneRefusal m) divisions (nonzonePlace (zoneCount m))
+    service-stage : (s place : ℕ) → ((r : Answer) → service.RefusedAt (serviceIn m s) place r → Why r)
+        → Stage (service.Accepted (serviceIn m s)) Why (service.serviceInTurn (serviceIn m s) place)
+    service-stage s place because =
+        ⊎-elim
+        (λ (z : service.serviceInTurn (serviceIn m s) place .number ≡ 0).
+        let fine : service.Accepted (serviceIn m s) = accepted-fine (serviceIn m s) place z in
+        passed (fine-accepted (serviceIn m s) place fine) fine)
+        (λ (d : service.serviceInTurn (serviceIn m s) place .number ≢ 0). stopped d (because _ (refused-where (serviceIn m s) place d)))
+        (zero-or-not (service.serviceInTurn (serviceIn m s) place .number))
+
+    divisions-stage : Stage (Accepted m lentCharges lentCredits) Why (divisionsInTurn m)
+    unfolding divisionsInTurn networkInTurn
+    divisions-stage =
+        then-stage {G = NetworkFine m × service.Accepted (serviceIn m blackStart)}
+        (then-stage
+        (then-stage zones-stage nonzone-stage)
+        (λ network.
+        passed-on (λ fine. (network, fine))
+        (service-stage blackStart (blackStartPlace (zoneCount m)) (λ r. in-black-start good network))))
+        (λ p.
+        passed-on
+        (λ fine.
+        record {
+          good = good;
+          network-fine = p .0;
+          service-fine = λ s i.
+              ⊎-elim
+              (λ (q : s ≡ blackStart). subst (λ k. service.Accepted (serviceIn m k)) (sym q) (p .1))
+              (λ (q : s ≡ reactive). subst (λ k. service.Accepted (serviceIn m k)) (sym q) fine)
+              i;
+        })
+        (service-stage reactive (reactivePlace (zoneCount m)) (λ r. in-reactive good (p .0) (p .1))))
+
+  answer-stage : Stage (Accepted m lentCharges lentCredits) Why (answerOf m lentCharges lentCredits)
+  unfolding answerOf
+  answer-stage = then-stage tables-stage divisions-stage
 
   pub answer-accepted : answerOf m lentCharges lentCredits .number ≡ 0 → Accepted m lentCharges lentCredits
-  unfolding answerOf divisionsInTurn networkInTurn tables-answer black-start-answer reactive-answer zones-answer nonzone-answer
   answer-accepted e =
-      let all = then-none tables-answer _ e in
-      let services = then-none (networkInTurn m then black-start-answer) reactive-answer (all .1) in
-      let first = then-none (networkInTurn m) black-start-answer (services .0) in
-      let network = then-none zones-answer nonzone-answer (first .0) in
-      record {
-        good = judged-good (m .month) (m .days) (m .nonzone) (m .tables) lentCharges lentCredits (all .0);
-        zones-fine = accepted-all (networkPots m) networkPlace (network .0);
-        nonzone-fine = sym (refuse-number (nonzoneRefusal m) divisions (nonzonePlace (zoneCount m))) ∙ network .1;
-        service-fine = λ s i.
-            ⊎-elim
-            (λ (q : s ≡ blackStart). subst (λ k. service.Accepted (serviceIn m k)) (sym q) (accepted-fine (serviceIn m blackStart) _ (first .1)))
-            (λ (q : s ≡ reactive). subst (λ k. service.Accepted (serviceIn m k)) (sym q) (accepted-fine (serviceIn m reactive) _ (services .1)))
-            i;
-      }
+      elim answer-stage as (λ s. Accepted m lentCharges lentCredits) [ passed q all ↦ all | stopped d why ↦ absurd (d e) ]
+
+  pub answer-why : answerOf m lentCharges lentCredits .number ≢ 0 → Why (answerOf m lentCharges lentCredits)
+  answer-why bad =
+      elim answer-stage as (λ s. Why (answerOf m lentCharges lentCredits))
+      [ passed q all ↦ absurd (bad (ap (λ (a : Answer). a .number) q)) | stopped d why ↦ why ]
+
+  pub tables-accept : Good m lentCharges lentCredits → judged (m .month) (m .days) (m .nonzone) (m .tables) lentCharges lentCredits ≡ accepted
+  tables-accept = good-unrefused (m .month) (m .days) (m .nonzone) (m .tables) lentCharges lentCredits
 
   pub accepted-answer : Accepted m lentCharges lentCredits → answerOf m lentCharges lentCredits ≡ accepted
-  unfolding answerOf divisionsInTurn networkInTurn
+  unfolding answerOf divisionsInTurn
   accepted-answer a =
-      both-accepted (good-unrefused (m .month) (m .days) (m .nonzone) (m .tables) lentCharges lentCredits (a .good))
-      (both-accepted
-      (both-accepted
-      (both-accepted (all-accepted (networkPots m) networkPlace (a .zones-fine))
-      (refuse-none (nonzoneRefusal m) divisions (nonzonePlace (zoneCount m)) (a .nonzone-fine)))
+      onward (tables-accept (a .good))
+      (onward
+      (onward (network-accepts m (a .network-fine))
       (fine-accepted (serviceIn m blackStart) (blackStartPlace (zoneCount m)) (a .service-fine blackStart (inl refl))))
       (fine-accepted (serviceIn m reactive) (reactivePlace (zoneCount m)) (a .service-fine reactive (inr refl))))

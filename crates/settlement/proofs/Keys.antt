@@ -44,6 +44,10 @@ module _ (n : ℕ) (key : ℕ → ℕ) (up : Ascends n key) where
 pub no-row-of : (n : ℕ) (key : ℕ → ℕ) (x v : ℕ) → ((i : ℕ) → i < n → x ≢ key i) → sumTo n (λ i. when (eqb x (key i)) v) ≡ 0
 no-row-of n key x v none = sum-zero n (λ i. when (eqb x (key i)) v) (λ i b. rw (ne-eqb x (key i) (none i b)))
 
+pub no-entry-of : (n : ℕ) (key f : ℕ → ℕ) (x : ℕ) → ((i : ℕ) → i < n → key i ≢ x) → sumWhere n key f x ≡ 0
+unfolding sumWhere
+no-entry-of n key f x none = sum-zero n (λ i. when (eqb (key i) x) (f i)) (λ i b. rw (ne-eqb (key i) x (none i b)))
+
 -- .. and what the rows with a number have is at most what one row can have
 pub one-row-at-most : (n : ℕ) (key f : ℕ → ℕ) (x most : ℕ) → Ascends n key → ((i : ℕ) → i < n → f i ≤ most)
     → sumWhere n key f x ≤ most

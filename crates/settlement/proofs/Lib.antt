@@ -2,6 +2,7 @@ pub mod Keys
 pub mod Settling
 pub mod Writing
 pub mod Ranges
+pub mod Days
 pub mod Balance
 pub mod Accepting
 pub mod Parts

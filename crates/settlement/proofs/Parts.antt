@@ -82,10 +82,10 @@ module _ {m : Input} {lentCharges lentCredits : ℕ} (all : Accepted m lentCharg
         ∙ add-zero (service.zoneShare (serviceIn m s) z a)
 
     -- what an account of zone 0 pays
-    pub pays-the-non-zone-pot : (a : ℕ) → a < accountCount m → accountZone accounts a ≡ 0
+    pub pays-the-nonzone-pot : (a : ℕ) → a < accountCount m → accountZone accounts a ≡ 0
         → serviceCharge m s a ≡ service.nonzoneShare (serviceIn m s) a
     unfolding serviceCharge
-    pays-the-non-zone-pot a b e =
+    pays-the-nonzone-pot a b e =
         promises.charge-at-the-border (serviceIn m s) fine a b (λ z h q. zone-not-zero z h (sym q ∙ e))
 
     -- a zone's accounts, and zone 0's, as lists of their own, by use
@@ -99,12 +99,12 @@ module _ {m : Input} {lentCharges lentCredits : ℕ} (all : Accepted m lentCharg
         (kept-eq (accountCount m) (λ c. eqb (accountZone accounts c) (zoneNumber zones z)) (zonePart accounts (accountUse m)) (accountUse m)
         (λ c l q. zone-part-is-use m c (λ o. zone-not-zero z h (sym (eqb-true (accountZone accounts c) (zoneNumber zones z) q) ∙ o))))
 
-    pub non-zone-pot-alone : (a : ℕ) → a < accountCount m → accountZone accounts a ≡ 0
+    pub nonzone-pot-alone : (a : ℕ) → a < accountCount m → accountZone accounts a ≡ 0
         → service.nonzoneShare (serviceIn m s) a
         ≡ at (shares (service.nonzonePot (serviceIn m s)) (kept (accountCount m) (λ b. eqb (accountZone accounts b) 0) (accountUse m)))
         (count a (λ b. eqb (accountZone accounts b) 0))
     unfolding service.nonzoneShare turn.nonzoneRefusal service.nonzoneParts
-    non-zone-pot-alone a b e =
+    nonzone-pot-alone a b e =
         share-alone (accountCount m) (nonzonePart accounts (accountUse m)) (λ c. eqb (accountZone accounts c) 0)
         (λ c l q. no-nonzone-part m c (eqb-false (accountZone accounts c) 0 q))
         (service.nonzonePot (serviceIn m s)) (fine .nonzone-fine) a b (eq-eqb (accountZone accounts a) 0 e)
@@ -113,9 +113,9 @@ module _ {m : Input} {lentCharges lentCredits : ℕ} (all : Accepted m lentCharg
         (λ c l q. nonzone-part-is-use m c (eqb-true (accountZone accounts c) 0 q)))
 
     -- all of the non-zone pot is zone 0's accounts'
-    pub non-zone-pot-to-zone-0 : sumWhere (accountCount m) (accountZone accounts) (service.nonzoneShare (serviceIn m s)) 0 ≡ service.nonzonePot (serviceIn m s)
+    pub nonzone-pot-to-zone-0 : sumWhere (accountCount m) (accountZone accounts) (service.nonzoneShare (serviceIn m s)) 0 ≡ service.nonzonePot (serviceIn m s)
     unfolding sumWhere
-    non-zone-pot-to-zone-0 =
+    nonzone-pot-to-zone-0 =
         sum-eq (accountCount m) (λ a. when (eqb (accountZone accounts a) 0) (service.nonzoneShare (serviceIn m s) a)) (service.nonzoneShare (serviceIn m s))
         (λ a b.
         ⊎-elim
@@ -131,4 +131,4 @@ module _ {m : Input} {lentCharges lentCredits : ℕ} (all : Accepted m lentCharg
       → networkCredit m o ≡ amount (networkPots m) z o
   unfolding networkCredit
   credit-from-own-zone o z b h e =
-      from-own-group (networkPots m) (all .zones-fine) o z b h (eq-eqb (ownerZone owners o) (zoneNumber zones z) e) (zones-distinct z h)
+      from-own-group (networkPots m) (all .network-fine .zones-fine) o z b h (eq-eqb (ownerZone owners o) (zoneNumber zones z) e) (zones-distinct z h)

@@ -7,25 +7,27 @@ use Prim.Native.Nat.{ℕ, _+_, _<_, _*_, _≤_}
 use native.Mathlib.Omega.{arith}
 use mathlib.Core.List.{List}
 use lib.Dec.{eqb}
-use borrow.Author.Tests.{eq-eqb, ne-eqb}
-use Rattle.lists.specs.Sums.{sumTo, when, sumWhere, count, at}
+use borrow.Author.Tests.{eq-eqb}
+use Rattle.lists.specs.Sums.{sumTo, at, total, sumWhere, count}
 use Rattle.lists.specs.Entries.{kept}
-use Rattle.lists.proofs.Sums.{sum-zero, where-eq}
+use Rattle.lists.proofs.Sums.{where-eq}
 use Rattle.answer.specs.declared.Answer.{Answer}
 use Rattle.answer.specs.Numbers.{BIG, BASE}
+use Rattle.answer.specs.Turns.{accepted}
 use Rattle.division.specs.Shares.{shares}
-use Rattle.groups.specs.Groups.{amount, alone}
+use Rattle.groups.specs.Groups.{weightsIn, alone, amount, refusal}
 use Rattle.groups.proofs.Members.{listed-add-up, listed-none}
 use Rattle.groups.proofs.Laws.{pots-divided, pot-divided, members-have-all, amount-alone, weightless-none-at-all}
 use Rattle.service.specs.Service.{zoneSide, nonzoneSide, nonzonePot, zoneShare, nonzoneShare}
 use Rattle.service.specs.Turn.{splitRefusal, shareRefusal}
 use Rattle.service.specs.Turn as turn
+use Rattle.service.proofs.Turns.{size-exactly}
 use Rattle.service.proofs.Promises as service
 use Rattle.tables.specs.Shape.{chargeWidth, creditWidth, Tables}
-use Rattle.tables.specs.Columns.{zoneNumber, ownerNumber, ownerZone, ownerRequirement, unitOwner, accountZone, zoneRate, accountNumber, reservationAccount, reservationReserved, reservationCurtailed}
+use Rattle.tables.specs.Columns.{zoneNumber, ownerNumber, ownerZone, ownerRequirement, unitOwner, accountZone, zoneRate, accountNumber, loadAccount, loadDay, loadContribution, reservationAccount, reservationReserved, reservationCurtailed}
 use Rattle.tables.specs.Limits.{blackStart, reactive}
-use Rattle.pool.specs.Input.{Input, zoneCount, ownerCount, unitCount, accountCount, reservationCount}
-use Rattle.pool.specs.Accounts.{accountUse, reserved, curtailed}
+use Rattle.pool.specs.Input.{Input, zoneCount, ownerCount, unitCount, accountCount, loadCount, reservationCount}
+use Rattle.pool.specs.Accounts.{contributions, reserved, curtailed, accountUse}
 use Rattle.pool.specs.Network.{chargesIn, networkPots, networkCredit, requirements, nonzoneCredit, nonzoneRefusal, rate}
 use Rattle.pool.specs.Services.{creditIn, serviceCredit, zonePot, serviceIn, serviceCharge}
 use Rattle.settlement.specs.Settled.{answerOf, chargeOf, creditOf, Settled}
@@ -34,20 +36,34 @@ use Rattle.settlement.proofs.Accepting.{answer-accepted, accepted-answe
 use Rattle.settlement.proofs.Balance as balance
 use Rattle.settlement.specs.Refused.{Refused, Places}
 use Rattle.settlement.proofs.Refusing as refusing
+use Rattle.settlement.specs.Days.{contributionOn}
+use Rattle.settlement.proofs.Keys.{no-entry-of}
+use Rattle.settlement.proofs.Days as days
 use Rattle.settlement.proofs.Ranges as ranges
 use Rattle.settlement.proofs.Parts as parts
 
 module _ (m : Input) (lentCharges lentCredits : ℕ) where
-  -- a month is accepted exactly where its input is good and every division is fine: no good month is refused
-  pub accepted-exactly : (answerOf m lentCharges lentCredits .number ≡ 0) ↔ Accepted m lentCharges lentCredits
+  -- a month is accepted, with 0, 0, 0, exactly where its input is good and every division is fine: no good month is refused
+  pub accepted-exactly : (answerOf m lentCharges lentCredits ≡ accepted) ↔ Accepted m lentCharges lentCredits
   accepted-exactly = (
-    answer-accepted m lentCharges lentCredits,
-    λ all. ap (λ (r : Answer). r .number) (accepted-answer m lentCharges lentCredits all),
+    (λ e. answer-accepted m lentCharges lentCredits (ap (λ (r : Answer). r .number) e)),
+    accepted-answer m lentCharges lentCredits,
   )
 
-  -- a refused month names the rule of the tables that is broken, or the first division that is not fine, by the paper's place
-  pub refused-why : answerOf m lentCharges lentCredits .number ≢ 0 → Refused m lentCharges lentCredits (answerOf m lentCharges lentCredits)
-  refused-why = refusing.refused-why m lentCharges lentCredits
+  -- a month is refused with an answer exactly when that names the first rule of the tables that is broken or, by the paper's place,
+  -- the first division that is not fine
+  pub refused-exactly : (r : Answer) → Refused m lentCharges lentCredits r ↔ ((answerOf m lentCharges lentCredits ≡ r) × (r .number ≢ 0))
+  refused-exactly = refusing.answer-exactly m lentCharges lentCredits
+
+-- a network division is fine exactly where pot and weights are within their limits and a pot has a base
+pub zone-fine-exactly : (m : Input) (z : ℕ)
+    → (refusal (networkPots m) z ≡ 0) ↔ turn.FineSize (chargesIn m (zoneNumber (m .tables .zones) z)) (total (weightsIn (networkPots m) z))
+unfolding refusal
+zone-fine-exactly m z = size-exactly (chargesIn m (zoneNumber (m .tables .zones) z)) (total (weightsIn (networkPots m) z))
+
+pub nonzone-fine-exactly : (m : Input) → (nonzoneRefusal m ≡ 0) ↔ turn.FineSize (chargesIn m 0) (total (requirements m))
+unfolding nonzoneRefusal
+nonzone-fine-exactly m = size-exactly (chargesIn m 0) (total (requirements m))
 
 -- the places of the services' divisions are the paper's
 pub places-are-the-papers : (m : Input) → Places m
@@ -76,7 +92,7 @@ module _ {m : Input} {charges chargesAfter credits creditsAfter : List ℕ} {r :
   credits-behind-stay = refusing.behind-credits settled
 
 module _ {m : Input} {lentCharges lentCredits : ℕ} (all : Accepted m lentCharges lentCredits) where
-  open Tables (m .tables) using (zones, owners, units, accounts, reservations)
+  open Tables (m .tables) using (zones, owners, units, accounts, loads, reservations)
 
   -- an account's rate is its zone's, or the non-zone rate; its energy is that of its own reservation
   pub rate-is-its-zones : (a z : ℕ) → z < zoneCount m → accountZone accounts a ≡ zoneNumber zones z → rate m a ≡ zoneRate zones z
@@ -89,18 +105,26 @@ module _ {m : Input} {lentCharges lentCredits : ℕ} (all : Accepted m lentCharg
       → (reserved m a ≡ reservationReserved reservations r) × (curtailed m a ≡ reservationCurtailed reservations r)
   energy-is-its-reservations = ranges.reservation-of m lentCharges lentCredits (all .good)
 
+  -- a load row's contribution is its account's on its day, and the days' contributions add up to the month's
+  pub load-is-of-its-day : (a i : ℕ) → i < loadCount m → loadAccount loads i ≡ accountNumber accounts a
+      → contributionOn m a (loadDay loads i) ≡ loadContribution loads i
+  load-is-of-its-day a = days.load-on-its-day m a lentCharges lentCredits (all .good)
+
+  pub contributions-day-by-day : (a : ℕ) → contributions m a ≡ sumTo (m .days) (λ d. contributionOn m a (d + 1))
+  contributions-day-by-day a = days.day-by-day m a lentCharges lentCredits (all .good)
+
   -- an owner without requirement has no network credit
   pub no-requirement-no-credit : (o : ℕ) → o < ownerCount m → ownerRequirement owners o ≡ 0 → (networkCredit m o ≡ 0) × (nonzoneCredit m o ≡ 0)
   unfolding networkCredit nonzoneCredit requirements nonzoneRefusal
   no-requirement-no-credit o b e = (
-    weightless-none-at-all (networkPots m) (all .zones-fine) o b e,
-    listed-none (chargesIn m 0) (ownerCount m) (ownerRequirement owners) (all .nonzone-fine) o b e,
+    weightless-none-at-all (networkPots m) (all .network-fine .zones-fine) o b e,
+    listed-none (chargesIn m 0) (ownerCount m) (ownerRequirement owners) (all .network-fine .nonzone-fine) o b e,
   )
 
   -- in each zone the network charges of its accounts add up to what its owners have from it ..
   pub zone-charges-are-credits-from-it : (z : ℕ) → z < zoneCount m
       → chargesIn m (zoneNumber zones z) ≡ sumTo (ownerCount m) (λ o. amount (networkPots m) z o)
-  zone-charges-are-credits-from-it z b = sym (pot-divided (networkPots m) z (all .zones-fine z b))
+  zone-charges-are-credits-from-it z b = sym (pot-divided (networkPots m) z (all .network-fine .zones-fine z b))
 
   -- .. which is the network credit of each, and nobody else's: "In each zone the network charges equal the network credits"
   pub network-credit-is-from-own-zone : (o z : ℕ) → o < ownerCount m → z < zoneCount m → ownerZone owners o ≡ zoneNumber zones z
@@ -111,20 +135,20 @@ module _ {m : Input} {lentCharges lentCredits : ℕ} (all : Accepted m lentCharg
       → chargesIn m (zoneNumber zones z) ≡ sumWhere (ownerCount m) (ownerZone owners) (networkCredit m) (zoneNumber zones z)
   unfolding sumWhere
   zone-charges-are-credits z b =
-      sym (members-have-all (networkPots m) z (all .zones-fine z b))
+      sym (members-have-all (networkPots m) z (all .network-fine .zones-fine z b))
       ∙ where-eq (ownerCount m) (ownerZone owners) (amount (networkPots m) z) (zoneNumber zones z) (networkCredit m)
       (λ o h e. sym (parts.credit-from-own-zone all o z h b e))
 
   -- all zones' network charges add up to all network credits
   pub all-zone-charges-are-credits : sumTo (zoneCount m) (λ z. chargesIn m (zoneNumber zones z)) ≡ sumTo (ownerCount m) (networkCredit m)
   unfolding networkCredit
-  all-zone-charges-are-credits = sym (pots-divided (networkPots m) (all .zones-fine))
+  all-zone-charges-are-credits = sym (pots-divided (networkPots m) (all .network-fine .zones-fine))
 
   -- the network charges of zone 0 add up to all non-zone credits
-  pub zone-0-charges-are-non-zone-credits : chargesIn m 0 ≡ sumTo (ownerCount m) (nonzoneCredit m)
+  pub zone-0-charges-are-nonzone-credits : chargesIn m 0 ≡ sumTo (ownerCount m) (nonzoneCredit m)
   unfolding nonzoneCredit requirements nonzoneRefusal
-  zone-0-charges-are-non-zone-credits =
-      sym (listed-add-up (chargesIn m 0) (ownerCount m) (ownerRequirement owners) (all .nonzone-fine))
+  zone-0-charges-are-nonzone-credits =
+      sym (listed-add-up (chargesIn m 0) (ownerCount m) (ownerRequirement owners) (all .network-fine .nonzone-fine))
 
   -- "over the pool the same holds for black start and for reactive"
   pub service-charges-are-credits : (s : ℕ) → IsService s → sumTo (accountCount m) (serviceCharge m s) ≡ sumTo (ownerCount m) (serviceCredit m s)
@@ -142,7 +166,7 @@ module _ {m : Input} {lentCharges lentCredits : ℕ} (all : Accepted m lentCharg
         arith,
         balance.charges-by-zone m lentCharges lentCredits (all .good),
         all-zone-charges-are-credits,
-        zone-0-charges-are-non-zone-credits,
+        zone-0-charges-are-nonzone-credits,
         service-charges-are-credits blackStart (inl refl),
         service-charges-are-credits reactive (inr refl),
       )
@@ -162,12 +186,12 @@ module _ {m : Input} {lentCharges lentCredits : ℕ} (all : Accepted m lentCharg
         ∙ service.zone-side-to-its-accounts (serviceIn m s) (all .service-fine s i) z b
 
     -- the non-zone sides of all zones are fully charged to zone 0's accounts, and are all that these are charged
-    pub non-zone-sides-to-zone-0 : sumWhere (accountCount m) (accountZone accounts) (serviceCharge m s) 0 ≡ sumTo (zoneCount m) (nonzoneSide (serviceIn m s))
+    pub nonzone-sides-to-zone-0 : sumWhere (accountCount m) (accountZone accounts) (serviceCharge m s) 0 ≡ sumTo (zoneCount m) (nonzoneSide (serviceIn m s))
     unfolding nonzonePot
-    non-zone-sides-to-zone-0 =
+    nonzone-sides-to-zone-0 =
         where-eq (accountCount m) (accountZone accounts) (serviceCharge m s) 0 (nonzoneShare (serviceIn m s))
-        (parts.pays-the-non-zone-pot all s (all .service-fine s i))
-        ∙ parts.non-zone-pot-to-zone-0 all s (all .service-fine s i)
+        (parts.pays-the-nonzone-pot all s (all .service-fine s i))
+        ∙ parts.nonzone-pot-to-zone-0 all s (all .service-fine s i)
 
     -- an account that uses nothing is charged nothing
     pub idle-account-is-free : (a : ℕ) → a < accountCount m → accountUse m a ≡ 0 → serviceCharge m s a ≡ 0
@@ -189,7 +213,7 @@ module _ {m : Input} {lentCharges lentCredits : ℕ} (all : Accepted m lentCharg
         ≡ at (shares (nonzonePot (serviceIn m s)) (kept (accountCount m) (λ b. eqb (accountZone accounts b) 0) (accountUse m)))
         (count a (λ b. eqb (accountZone accounts b) 0))
     charge-among-zone-0-accounts a b e =
-        parts.pays-the-non-zone-pot all s (all .service-fine s i) a b e ∙ parts.non-zone-pot-alone all s (all .service-fine s i) a b e
+        parts.pays-the-nonzone-pot all s (all .service-fine s i) a b e ∙ parts.nonzone-pot-alone all s (all .service-fine s i) a b e
 
   -- "divided among its owners by requirement": the zone's owners as a list of their own
   pub credit-among-zone-owners : (o z : ℕ) → o < ownerCount m → z < zoneCount m → ownerZone owners o ≡ zoneNumber zones z
@@ -199,19 +223,33 @@ module _ {m : Input} {lentCharges lentCredits : ℕ} (all : Accepted m lentCharg
   unfolding alone
   credit-among-zone-owners o z b h e =
       parts.credit-from-own-zone all o z b h e
-      ∙ amount-alone (networkPots m) z (all .zones-fine z h) o b (eq-eqb (ownerZone owners o) (zoneNumber zones z) e)
+      ∙ amount-alone (networkPots m) z (all .network-fine .zones-fine z h) o b (eq-eqb (ownerZone owners o) (zoneNumber zones z) e)
+
+-- "A missing load day is zero"
+pub missing-day-is-zero : (m : Input) (a day : ℕ)
+    → ((i : ℕ) → i < loadCount m → loadAccount (m .tables .loads) i ≡ accountNumber (m .tables .accounts) a → loadDay (m .tables .loads) i ≢ day)
+    → contributionOn m a day ≡ 0
+missing-day-is-zero = days.missing-day
+
+-- "an account with no reservation row has none"
+pub no-reservation-no-energy : (m : Input) (a : ℕ)
+    → ((r : ℕ) → r < reservationCount m → reservationAccount (m .tables .reservations) r ≢ accountNumber (m .tables .accounts) a)
+    → (reserved m a ≡ 0) × (curtailed m a ≡ 0)
+unfolding reserved curtailed
+no-reservation-no-energy m a none = (
+  no-entry-of (reservationCount m) (reservationAccount (m .tables .reservations)) (reservationReserved (m .tables .reservations)) (accountNumber (m .tables .accounts) a) none,
+  no-entry-of (reservationCount m) (reservationAccount (m .tables .reservations)) (reservationCurtailed (m .tables .reservations)) (accountNumber (m .tables .accounts) a) none,
+)
 
 -- an owner without units has no service credit
 pub no-units-no-credit : (m : Input) (s o : ℕ) → ((u : ℕ) → u < unitCount m → unitOwner (m .tables .units) u ≢ ownerNumber (m .tables .owners) o) → serviceCredit m s o ≡ 0
-unfolding serviceCredit sumWhere
-no-units-no-credit m s o none =
-    sum-zero (unitCount m) (λ u. when (eqb (unitOwner (m .tables .units) u) (ownerNumber (m .tables .owners) o)) (creditIn m s u))
-    (λ u b. rw (ne-eqb (unitOwner (m .tables .units) u) (ownerNumber (m .tables .owners) o) (none u b)))
+unfolding serviceCredit
+no-units-no-credit m s o = no-entry-of (unitCount m) (unitOwner (m .tables .units)) (creditIn m s) (ownerNumber (m .tables .owners) o)
 
 -- after a split that is fine, a service's share is never BIG
 pub share-never-big : (m : Input) (s z : ℕ) → splitRefusal (serviceIn m s) z ≡ 0 → shareRefusal (serviceIn m s) z ≢ BIG
 share-never-big m s = service.share-never-big (serviceIn m s)
 
 -- after splits that are all fine, a service's non-zone pot is never BASE
-pub non-zone-never-base : (m : Input) (s : ℕ) → ((z : ℕ) → z < zoneCount m → splitRefusal (serviceIn m s) z ≡ 0) → turn.nonzoneRefusal (serviceIn m s) ≢ BASE
-non-zone-never-base m s = service.nonzone-never-base (serviceIn m s)
+pub nonzone-never-base : (m : Input) (s : ℕ) → ((z : ℕ) → z < zoneCount m → splitRefusal (serviceIn m s) z ≡ 0) → turn.nonzoneRefusal (serviceIn m s) ≢ BASE
+nonzone-never-base m s = service.nonzone-never-base (serviceIn m s)

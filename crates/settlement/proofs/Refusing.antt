@@ -1,8 +1,8 @@
--- A refused settlement is refused by its tables or at the first division that is not fine; and the words of the lent outputs after a
--- settlement, one by one.
+-- A settlement is refused exactly by its tables, or at the first division that is not fine; and the words of the lent outputs after
+-- a settlement, one by one.
 -- Assumes nothing.
 use mathlib.Core.Path.{_≡_, refl, sym, ap, ap₂, _∙_, subst}
-use mathlib.Core.Logic.{_≢_, ⊎-elim}
+use mathlib.Core.Logic.{_↔_, _≢_}
 use mathlib.Core.List.{List}
 use Prim.Native.Nat.{ℕ, _+_, _*_, _≤_, _<_}
 use native.Mathlib.Nat.{zero-add}
@@ -10,30 +10,31 @@ use native.Mathlib.Omega.{arith}
 use lib.Arith.{digits-div, digits-mod, digits-lt}
 use lib.ListN.{length}
 use borrow.Author.Tests.{eq-eqb, ne-eqb}
-use Rattle.lists.specs.Sums.{at}
+use Rattle.lists.specs.Sums.{at, total}
 use Rattle.lists.specs.Entries.{put}
 use Rattle.lists.proofs.Entries.{at-put, put-ahead}
 use Rattle.answer.specs.declared.Answer.{Answer}
 use Rattle.answer.specs.Numbers.{divisions}
-use Rattle.answer.specs.Turns.{refuse, _then_}
-use Rattle.answer.proofs.Turns.{zero-or-not, then-first, then-second, then-none, refuse-some, refuse-number}
+use Rattle.answer.specs.Turns.{refuse, refusal}
+use Rattle.answer.proofs.Turns.{refuse-none, refuse-some, refuse-number, turns-stop}
+use Rattle.division.specs.Refused.{SizeRefused}
+use Rattle.division.proofs.Laws.{why-size}
 use Rattle.groups.specs.Groups as groups
-use Rattle.groups.proofs.Laws.{accepted-all, RefusedGroup, refused-at}
+use Rattle.groups.proofs.Laws.{all-accepted}
 use Rattle.service.specs.Turn as service
-use Rattle.service.proofs.Turns.{accepted-fine}
-use Rattle.service.proofs.Promises.{refused-where}
+use Rattle.service.proofs.Turns.{fine-accepted, refused-exactly}
 use Rattle.tables.specs.Shape.{chargeWidth, creditWidth}
+use Rattle.tables.specs.Columns.{zoneNumber}
 use Rattle.tables.specs.Limits.{blackStart, reactive}
-use Rattle.judgement.specs.Judgement.{judged}
-use Rattle.judgement.proofs.Judging.{judged-good}
-use Rattle.judgement.proofs.Promises as judgement
+use Rattle.judgement.proofs.Reasons.{onward, stays}
+use Rattle.judgement.proofs.Reasons as judgement
 use Rattle.pool.specs.Input.{Input, zoneCount, ownerCount, accountCount}
-use Rattle.pool.specs.Network.{networkPots, nonzoneRefusal}
+use Rattle.pool.specs.Network.{chargesIn, networkPots, requirements, nonzoneRefusal}
 use Rattle.pool.specs.Services.{serviceIn}
 use Rattle.settlement.specs.Settled.{networkPlace, nonzonePlace, blackStartPlace, reactivePlace, laid, networkInTurn, divisionsInTurn, answerOf, chargeOf, creditOf, chargeWords, creditWords, Settled}
-use Rattle.settlement.specs.Accepted.{Good, Accepted}
-use Rattle.settlement.specs.Refused.{NetworkFine, Refused, by-tables, at-zone, at-nonzone, in-black-start, in-reactive, Places}
-use Rattle.settlement.proofs.Accepting.{answer-accepted}
+use Rattle.settlement.specs.Accepted.{ZonesFine, Accepted}
+use Rattle.settlement.specs.Refused.{Refused, by-tables, at-zone, at-nonzone, in-black-start, in-reactive, Places}
+use Rattle.settlement.proofs.Accepting.{answer-accepted, answer-why, tables-accept, network-accepts}
 
 module _ (m : Input) (lentCharges lentCredits : ℕ) where
   abbrev zones-answer : Answer
@@ -48,80 +49,71 @@ module _ (m : Input) (lentCharges lentCredits : ℕ) where
   abbrev reactive-answer : Answer
   reactive-answer = service.serviceInTurn (serviceIn m reactive) (reactivePlace (zoneCount m))
 
-  module _ (good : Good m lentCharges lentCredits) where
-    at-a-zone : zones-answer .number ≢ 0 → Refused m lentCharges lentCredits zones-answer
-    at-a-zone bad =
-        let g : RefusedGroup (networkPots m) networkPlace zones-answer = refused-at (networkPots m) networkPlace bad in
-        at-zone good (g .group) (g .one-of-them) (g .earlier-fine) (λ e. bad (g .its-number ∙ e))
-        (λ i. record { number = g .its-number i; table = g .its-table i; row = (g .its-place ∙ zero-add (g .group)) i })
+  -- the divisions of the zones stop at the first that is not fine
+  zone-stops : (z n : ℕ) → z < zoneCount m → ZonesFine m z → groups.refusal (networkPots m) z ≡ n → n ≢ 0 → zones-answer ≡ refusal n divisions z
+  unfolding groups.groupsInTurn
+  zone-stops z n b before e d =
+      turns-stop (λ y. refuse (groups.refusal (networkPots m) y) divisions (networkPlace + y)) (zoneCount m) z b
+      (λ y l. refuse-none (groups.refusal (networkPots m) y) divisions (networkPlace + y) (before y l))
+      (λ o. d (sym e ∙ sym (refuse-number (groups.refusal (networkPots m) z) divisions (networkPlace + z)) ∙ o))
+      ∙ ap₂ (λ k row. refuse k divisions row) e (zero-add z)
+      ∙ refuse-some n divisions z d
 
-    at-the-border : zones-answer .number ≡ 0 → nonzone-answer .number ≢ 0 → Refused m lentCharges lentCredits nonzone-answer
-    at-the-border zones bad =
-        let some : nonzoneRefusal m ≢ 0 = λ e. bad (refuse-number (nonzoneRefusal m) divisions (zoneCount m) ∙ e) in
-        at-nonzone good (accepted-all (networkPots m) networkPlace zones) some (refuse-some (nonzoneRefusal m) divisions (zoneCount m) some)
+  zone-is : (z n : ℕ) → SizeRefused (chargesIn m (zoneNumber (m .tables .zones) z)) (total (groups.weightsIn (networkPots m) z)) n
+      → (groups.refusal (networkPots m) z ≡ n) × (n ≢ 0)
+  unfolding groups.refusal
+  zone-is z n = why-size (chargesIn m (zoneNumber (m .tables .zones) z)) (total (groups.weightsIn (networkPots m) z)) n
 
-    network-refused : networkInTurn m .number ≢ 0 → Refused m lentCharges lentCredits (networkInTurn m)
-    unfolding networkInTurn
-    network-refused bad =
-        ⊎-elim
-        (λ (z : zones-answer .number ≡ 0).
-        let second : (zones-answer then nonzone-answer) ≡ nonzone-answer = then-second zones-answer nonzone-answer z in
-        subst (Refused m lentCharges lentCredits) (sym second) (at-the-border z (λ e. bad (ap (λ (a : Answer). a .number) second ∙ e))))
-        (λ (d : zones-answer .number ≢ 0).
-        subst (Refused m lentCharges lentCredits) (sym (then-first zones-answer nonzone-answer d)) (at-a-zone d))
-        (zero-or-not (zones-answer .number))
+  nonzone-is : (n : ℕ) → SizeRefused (chargesIn m 0) (total (requirements m)) n → (nonzoneRefusal m ≡ n) × (n ≢ 0)
+  unfolding nonzoneRefusal
+  nonzone-is n = why-size (chargesIn m 0) (total (requirements m)) n
 
-    network-fine : networkInTurn m .number ≡ 0 → NetworkFine m
-    unfolding networkInTurn
-    network-fine e =
-        let both = then-none zones-answer nonzone-answer e in
-        record {
-          zones-fine = accepted-all (networkPots m) networkPlace (both .0);
-          nonzone-fine = sym (refuse-number (nonzoneRefusal m) divisions (zoneCount m)) ∙ both .1;
-        }
+  why-number : (r : Answer) → Refused m lentCharges lentCredits r → r .number ≢ 0
+  why-number r (by-tables why) = judgement.why-number (m .month) (m .days) (m .nonzone) (m .tables) lentCharges lentCredits r why
+  why-number r (at-zone good z n b before why e) = λ o. zone-is z n why .1 (sym (ap (λ (a : Answer). a .number) e) ∙ o)
+  why-number r (at-nonzone good n before why e) = λ o. nonzone-is n why .1 (sym (ap (λ (a : Answer). a .number) e) ∙ o)
+  why-number r (in-black-start good network why) =
+      refused-exactly (serviceIn m blackStart) (blackStartPlace (zoneCount m)) r .0 why .1
+  why-number r (in-reactive good network first why) =
+      refused-exactly (serviceIn m reactive) (reactivePlace (zoneCount m)) r .0 why .1
 
-    divisions-refused : divisionsInTurn m .number ≢ 0 → Refused m lentCharges lentCredits (divisionsInTurn m)
-    unfolding divisionsInTurn
-    divisions-refused bad =
-        ⊎-elim
-        (λ (n : networkInTurn m .number ≡ 0).
-        let first : (networkInTurn m then black-start-answer) ≡ black-start-answer = then-second (networkInTurn m) black-start-answer n in
-        ⊎-elim
-        (λ (b : black-start-answer .number ≡ 0).
-        let all : (networkInTurn m then black-start-answer then reactive-answer) ≡ reactive-answer =
-        then-second (networkInTurn m then black-start-answer) reactive-answer (ap (λ (a : Answer). a .number) first ∙ b) in
-        subst (Refused m lentCharges lentCredits) (sym all)
-        (in-reactive good (network-fine n) (accepted-fine (serviceIn m blackStart) (blackStartPlace (zoneCount m)) b)
-        (refused-where (serviceIn m reactive) (reactivePlace (zoneCount m)) (λ e. bad (ap (λ (a : Answer). a .number) all ∙ e)))))
-        (λ (d : black-start-answer .number ≢ 0).
-        let all : (networkInTurn m then black-start-answer then reactive-answer) ≡ black-start-answer =
-        then-first (networkInTurn m then black-start-answer) reactive-answer (λ e. d (sym (ap (λ (a : Answer). a .number) first) ∙ e)) ∙ first in
-        subst (Refused m lentCharges lentCredits) (sym all)
-        (in-black-start good (network-fine n) (refused-where (serviceIn m blackStart) (blackStartPlace (zoneCount m)) d)))
-        (zero-or-not (black-start-answer .number)))
-        (λ (d : networkInTurn m .number ≢ 0).
-        let first : (networkInTurn m then black-start-answer) ≡ networkInTurn m = then-first (networkInTurn m) black-start-answer d in
-        let all : (networkInTurn m then black-start-answer then reactive-answer) ≡ networkInTurn m =
-        then-first (networkInTurn m then black-start-answer) reactive-answer (λ e. d (sym (ap (λ (a : Answer). a .number) first) ∙ e)) ∙ first in
-        subst (Refused m lentCharges lentCredits) (sym all) (network-refused d))
-        (zero-or-not (networkInTurn m .number))
+  -- a reason that is so is what is answered: all that is looked at earlier passes, and the look that it names does not
+  why-answer : (r : Answer) → Refused m lentCharges lentCredits r → answerOf m lentCharges lentCredits ≡ r
+  unfolding answerOf divisionsInTurn networkInTurn
+  why-answer r why = go why (why-number r why)
+    where
+      go : Refused m lentCharges lentCredits r → r .number ≢ 0 → answerOf m lentCharges lentCredits ≡ r
+      go (by-tables w) d =
+          stays d (divisionsInTurn m) (judgement.why-judged (m .month) (m .days) (m .nonzone) (m .tables) lentCharges lentCredits r w)
+      go (at-zone good z n b before w e) d =
+          onward (tables-accept m lentCharges lentCredits good)
+          (stays d reactive-answer
+          (stays d black-start-answer
+          (stays d nonzone-answer (zone-stops z n b before (zone-is z n w .0) (zone-is z n w .1) ∙ sym e))))
+      go (at-nonzone good n zones w e) d =
+          onward (tables-accept m lentCharges lentCredits good)
+          (stays d reactive-answer
+          (stays d black-start-answer
+          (onward (all-accepted (networkPots m) networkPlace zones)
+          (ap (λ k. refuse k divisions (zoneCount m)) (nonzone-is n w .0) ∙ refuse-some n divisions (zoneCount m) (nonzone-is n w .1) ∙ sym e))))
+      go (in-black-start good network w) d =
+          onward (tables-accept m lentCharges lentCredits good)
+          (stays d reactive-answer
+          (onward (network-accepts m network)
+          (refused-exactly (serviceIn m blackStart) (blackStartPlace (zoneCount m)) r .0 w .0)))
+      go (in-reactive good network first w) d =
+          onward (tables-accept m lentCharges lentCredits good)
+          (onward
+          (onward (network-accepts m network) (fine-accepted (serviceIn m blackStart) (blackStartPlace (zoneCount m)) first))
+          (refused-exactly (serviceIn m reactive) (reactivePlace (zoneCount m)) r .0 w .0))
 
-  abbrev tables-answer : Answer
-  tables-answer = judged (m .month) (m .days) (m .nonzone) (m .tables) lentCharges lentCredits
-
-  pub refused-why : answerOf m lentCharges lentCredits .number ≢ 0 → Refused m lentCharges lentCredits (answerOf m lentCharges lentCredits)
-  unfolding answerOf
-  refused-why bad =
-      ⊎-elim
-      (λ (t : tables-answer .number ≡ 0).
-      let all : (tables-answer then divisionsInTurn m) ≡ divisionsInTurn m = then-second tables-answer (divisionsInTurn m) t in
-      subst (Refused m lentCharges lentCredits) (sym all)
-      (divisions-refused (judged-good (m .month) (m .days) (m .nonzone) (m .tables) lentCharges lentCredits t)
-      (λ e. bad (ap (λ (a : Answer). a .number) all ∙ e))))
-      (λ (d : tables-answer .number ≢ 0).
-      subst (Refused m lentCharges lentCredits) (sym (then-first tables-answer (divisionsInTurn m) d))
-      (by-tables (judgement.refused-why (m .month) (m .days) (m .nonzone) (m .tables) lentCharges lentCredits d)))
-      (zero-or-not (tables-answer .number))
+  pub answer-exactly : (r : Answer) → Refused m lentCharges lentCredits r ↔ ((answerOf m lentCharges lentCredits ≡ r) × (r .number ≢ 0))
+  answer-exactly r = (
+    (λ why. (why-answer r why, why-number r why)),
+    λ p.
+        subst (Refused m lentCharges lentCredits) (p .0)
+        (answer-why m lentCharges lentCredits (λ z. p .1 (ap (λ (a : Answer). a .number) (sym (p .0)) ∙ z))),
+  )
 
 pub places : (m : Input) → Places m
 places m =

@@ -19,9 +19,17 @@ Good m lentCharges lentCredits = GoodMonth (m .month) (m .days) (m .nonzone) (m 
 abbrev pub IsService : ℕ → Type 0
 IsService s = (s ≡ blackStart) ⊎ (s ≡ reactive)
 
+-- the network divisions of the zones before zone z are fine
+abbrev pub ZonesFine : Input → ℕ → Type 0
+ZonesFine m z = (y : ℕ) → y < z → refusal (networkPots m) y ≡ 0
+
+-- all network divisions are
+pub record NetworkFine (m : Input) : Type 0 where
+  pub zones-fine : ZonesFine m (zoneCount m)
+  pub nonzone-fine : nonzoneRefusal m ≡ 0
+
 -- the input is good, and every division is fine
 pub record Accepted (m : Input) (lentCharges lentCredits : ℕ) : Type 0 where
   pub good : Good m lentCharges lentCredits
-  pub zones-fine : (z : ℕ) → z < zoneCount m → refusal (networkPots m) z ≡ 0
-  pub nonzone-fine : nonzoneRefusal m ≡ 0
+  pub network-fine : NetworkFine m
   pub service-fine : (s : ℕ) → IsService s → service.Accepted (serviceIn m s)

@@ -1,39 +1,33 @@
 -- Why a settlement is refused, and where: in each case all that is looked at earlier is fine, and the row is the paper's.
 -- Assumes nothing.
 use mathlib.Core.Path.{_≡_}
-use mathlib.Core.Logic.{_≢_}
 use Prim.Native.Nat.{ℕ, _+_, _*_, _<_}
+use Rattle.lists.specs.Sums.{total}
 use Rattle.answer.specs.declared.Answer.{Answer}
 use Rattle.answer.specs.Numbers.{divisions}
-use Rattle.groups.specs.Groups.{refusal}
+use Rattle.answer.specs.Turns.{refusal}
+use Rattle.division.specs.Refused.{SizeRefused}
+use Rattle.groups.specs.Groups.{weightsIn}
 use Rattle.service.specs.Turn as service
+use Rattle.tables.specs.Columns.{zoneNumber}
 use Rattle.tables.specs.Limits.{blackStart, reactive}
 use Rattle.judgement.specs.Refused as judgement
 use Rattle.pool.specs.Input.{Input, zoneCount}
-use Rattle.pool.specs.Network.{networkPots, nonzoneRefusal}
+use Rattle.pool.specs.Network.{chargesIn, networkPots, requirements}
 use Rattle.pool.specs.Services.{serviceIn}
 use Rattle.settlement.specs.Settled.{blackStartPlace, reactivePlace}
-use Rattle.settlement.specs.Accepted.{Good}
-
--- the network divisions of the zones before zone z are fine
-abbrev pub ZonesFine : Input → ℕ → Type 0
-ZonesFine m z = (y : ℕ) → y < z → refusal (networkPots m) y ≡ 0
-
--- all network divisions are
-pub record NetworkFine (m : Input) : Type 0 where
-  pub zones-fine : ZonesFine m (zoneCount m)
-  pub nonzone-fine : nonzoneRefusal m ≡ 0
+use Rattle.settlement.specs.Accepted.{Good, ZonesFine, NetworkFine}
 
 module _ (m : Input) (lentCharges lentCredits : ℕ) where
   pub data Refused (r : Answer) : Type 0 where
     -- an input that the tables' rules refuse
     by-tables : judgement.Refused (m .month) (m .days) (m .nonzone) (m .tables) lentCharges lentCredits r → Refused r
-    -- "network zones 0..k-1"
-    at-zone : Good m lentCharges lentCredits → (z : ℕ) → z < zoneCount m → ZonesFine m z → refusal (networkPots m) z ≢ 0
-        → r ≡ record { number = refusal (networkPots m) z; table = divisions; row = z } → Refused r
+    -- "network zones 0..k-1", "each BIG, then BASE"
+    at-zone : Good m lentCharges lentCredits → (z n : ℕ) → z < zoneCount m → ZonesFine m z
+        → SizeRefused (chargesIn m (zoneNumber (m .tables .zones) z)) (total (weightsIn (networkPots m) z)) n → r ≡ refusal n divisions z → Refused r
     -- "network non-zone k"
-    at-nonzone : Good m lentCharges lentCredits → ZonesFine m (zoneCount m) → nonzoneRefusal m ≢ 0
-        → r ≡ record { number = nonzoneRefusal m; table = divisions; row = zoneCount m } → Refused r
+    at-nonzone : Good m lentCharges lentCredits → (n : ℕ) → ZonesFine m (zoneCount m)
+        → SizeRefused (chargesIn m 0) (total (requirements m)) n → r ≡ refusal n divisions (zoneCount m) → Refused r
     -- at a division of black start, whose places start at k+1
     in-black-start : Good m lentCharges lentCredits → NetworkFine m
         → service.RefusedAt (serviceIn m blackStart) (blackStartPlace (zoneCount m)) r → Refused r

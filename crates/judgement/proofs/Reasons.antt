@@ -1,0 +1,205 @@
+-- A reason that is so is what a month is refused with: all that is looked at earlier passes, and the look that it names does not.
+-- Assumes nothing.
+use mathlib.Core.Path.{_≡_, refl, sym, ap, subst, _∙_}
+use mathlib.Core.Logic.{⊎-elim, _↔_, _≢_}
+use mathlib.Core.Bool.{Bool, true, false}
+use Prim.Native.Nat.{ℕ, _*_, _≤_, _<_}
+use native.Mathlib.Omega.{arith}
+use lib.ListN.{length}
+use Rattle.lists.proofs.Ranks.{lt-or-le}
+use Rattle.answer.specs.declared.Answer.{Answer}
+use Rattle.answer.specs.Numbers.{COUNT, ROOM, MONTH, RANGE, head, charges, credits}
+use Rattle.answer.specs.Turns.{look, accepted, refuse, refusal, _then_}
+use Rattle.answer.proofs.Turns.{zero-or-not, look-fault, look-fine, then-first, then-second, refuse-none, refuse-some, refuse-number, first-none, first-all, first-at}
+use Rattle.month.specs.Limits.{mostRate}
+use Rattle.month.specs.Months.{isMonth}
+use Rattle.tables.specs.declared.Table.{Table}
+use Rattle.tables.specs.declared.Table.the-variants.{Owners, Accounts}
+use Rattle.tables.specs.Shape.{number, chargeWidth, creditWidth, rows, Tables, wordsOf}
+use Rattle.tables.specs.Counts.{counted, roomFor, inTurn, Counted}
+use Rattle.tables.proofs.Tests.{Tests, at-least}
+use Rattle.tables.proofs.Stages.{Stage, passed, stopped, same-number, in-turn-stage}
+use Rattle.rows.specs.Rows.{rowOf}
+use Rattle.judgement.specs.Judgement.{headJudged, rowsJudged, judged}
+use Rattle.judgement.specs.Good.{GoodTable, Roomy, GoodFrame, GoodMonth}
+use Rattle.judgement.specs.Refused.{RowRefused, Refused, by-count, by-charges, by-credits, by-month, by-nonzone, by-row}
+use Rattle.judgement.proofs.Keeping.{faulty, within, count-tested}
+use Rattle.judgement.proofs.Rulings.{row-fine, row-number, broken-number}
+use Rattle.judgement.proofs.Judging.{judged-why}
+
+-- a look passes where its rule holds, and stops where it does not
+look-passes : {Rule : Type 0} {fault : Bool} (n table row : ℕ) → Tests Rule fault → Rule → refuse (look fault n 0) table row ≡ accepted
+look-passes {Rule} {fault} n table row test rule = refuse-none (look fault n 0) table row (look-fine fault n 0 (test .kept rule))
+
+look-stops : {Rule : Type 0} {fault : Bool} (n table row : ℕ) → n ≢ 0 → Tests Rule fault → ¬ Rule
+    → refuse (look fault n 0) table row ≡ refusal n table row
+look-stops {Rule} {fault} n table row d test broken =
+    ap (λ k. refuse k table row) (look-fault fault n 0 (faulty test broken)) ∙ refuse-some n table row d
+
+-- in turn: what is accepted leaves the answer to what follows, what is refused stays
+pub onward : {a b r : Answer} → a ≡ accepted → b ≡ r → (a then b) ≡ r
+onward {a} {b} e f = then-second a b (ap (λ (k : Answer). k .number) e) ∙ f
+
+pub stays : {a r : Answer} → r .number ≢ 0 → (b : Answer) → a ≡ r → (a then b) ≡ r
+stays {a} d b e = then-first a b (λ z. d (ap (λ (k : Answer). k .number) (sym e) ∙ z)) ∙ e
+
+-- six tables in turn, of which those with number 0 are accepted: the first that is refused has the answer
+module _ (f : Table → Answer) (zero : (table : Table) → f table .number ≡ 0 → f table ≡ accepted) where
+  abbrev First : Answer → Type 0
+  First a = (table : Table) × (a ≡ f table) × ((earlier : Table) → number earlier < number table → f earlier ≡ accepted)
+
+  abbrev Looked : Type 0
+  Looked = Stage ((table : Table) → f table ≡ accepted) First (inTurn f)
+
+  looked : Looked
+  looked =
+      in-turn-stage (λ table. f table ≡ accepted) First f
+      (λ table before.
+      ⊎-elim
+      (λ (z : f table .number ≡ 0). passed (zero table z) (zero table z))
+      (λ (d : f table .number ≢ 0). stopped d (table, refl, before))
+      (zero-or-not (f table .number)))
+
+  tables-pass : ((table : Table) → f table ≡ accepted) → inTurn f ≡ accepted
+  tables-pass fine = go looked
+    where
+      go : Looked → inTurn f ≡ accepted
+      go (passed e all) = e
+      go (stopped d why) = why .1 ∙ fine (why .0)
+
+  table-stops : (table : Table) (r : Answer) → ((earlier : Table) → number earlier < number table → f earlier ≡ accepted)
+      → f table ≡ r → r .number ≢ 0 → inTurn f ≡ r
+  table-stops table r before its bad = go looked
+    where
+      go : Looked → inTurn f ≡ r
+      go (passed e all) = absurd (bad (ap (λ (k : Answer). k .number) (sym its ∙ all table)))
+      go (stopped d why) =
+          ⊎-elim
+          (λ (l : number (why .0) < number table). absurd (d (ap (λ (k : Answer). k .number) (why .1 ∙ before (why .0) l))))
+          (λ (h : number table ≤ number (why .0)).
+          ⊎-elim
+          (λ (l : number table < number (why .0)). absurd (bad (ap (λ (k : Answer). k .number) (sym its ∙ why .2 table l))))
+          (λ (k : number (why .0) ≤ number table). why .1 ∙ ap f (same-number (why .0) table (omega arith)) ∙ its)
+          (lt-or-le (number table) (number (why .0))))
+          (lt-or-le (number (why .0)) (number table))
+
+module _ (month days nonzone : ℕ) (t : Tables) (lentCharges lentCredits : ℕ) where
+  -- the counts of the tables
+  abbrev countOf : Table → Answer
+  countOf table = counted table (length (wordsOf t table))
+
+  count-zero : (table : Table) → countOf table .number ≡ 0 → countOf table ≡ accepted
+  unfolding counted
+  count-zero table z = refuse-none _ (number table) 0 (sym (refuse-number _ (number table) 0) ∙ z)
+
+  count-passes : (table : Table) → Counted t table → countOf table ≡ accepted
+  unfolding counted
+  count-passes table = look-passes COUNT (number table) 0 (count-tested t table)
+
+  count-stops : (table : Table) → ¬ Counted t table → countOf table ≡ refusal COUNT (number table) 0
+  unfolding counted
+  count-stops table = look-stops COUNT (number table) 0 (omega arith) (count-tested t table)
+
+  counts-pass : ((table : Table) → Counted t table) → inTurn countOf ≡ accepted
+  counts-pass all = tables-pass countOf count-zero (λ table. count-passes table (all table))
+
+  -- the room of an output
+  room-passes : (output needed lent : ℕ) → needed ≤ lent → roomFor output needed lent ≡ accepted
+  unfolding roomFor
+  room-passes output needed lent = look-passes ROOM output 0 (at-least needed lent)
+
+  room-stops : (output needed lent : ℕ) → lent < needed → roomFor output needed lent ≡ refusal ROOM output 0
+  unfolding roomFor
+  room-stops output needed lent short = look-stops ROOM output 0 (omega arith) (at-least needed lent) (λ (fits : needed ≤ lent). omega arith)
+
+  abbrev chargesRoom : Answer
+  chargesRoom = roomFor charges (rows Accounts (t .accounts) * chargeWidth) lentCharges
+
+  abbrev creditsRoom : Answer
+  creditsRoom = roomFor credits (rows Owners (t .owners) * creditWidth) lentCredits
+
+  abbrev headRead : Answer
+  headRead = headJudged month days nonzone
+
+  abbrev allRows : Answer
+  allRows = inTurn (rowsJudged days t)
+
+  before-head : ((table : Table) → Counted t table) → Roomy t lentCharges lentCredits → (inTurn countOf then chargesRoom then creditsRoom) ≡ accepted
+  before-head all roomy =
+      onward (onward (counts-pass all) (room-passes charges _ lentCharges (roomy .charges-fit))) (room-passes credits _ lentCredits (roomy .credits-fit))
+
+  -- the head
+  no-month : isMonth month days ≡ false → headJudged month days nonzone ≡ refusal MONTH head 0
+  unfolding headJudged
+  no-month e = rw e (refuse-some MONTH head 0 (omega arith))
+
+  no-rate : isMonth month days ≡ true → mostRate < nonzone → headJudged month days nonzone ≡ refusal RANGE head 0
+  unfolding headJudged
+  no-rate e high =
+      rw e (look-stops RANGE head 0 (omega arith) (within 0 mostRate nonzone) (λ in-range. omega (arith, in-range .most)))
+
+  head-passes : GoodFrame month days nonzone t lentCharges lentCredits → headJudged month days nonzone ≡ accepted
+  unfolding headJudged
+  head-passes good = rw (good .month-known) (look-passes RANGE head 0 (within 0 mostRate nonzone) (good .nonzone-in-range))
+
+  -- the rows of a table
+  rows-zero : (table : Table) → rowsJudged days t table .number ≡ 0 → rowsJudged days t table ≡ accepted
+  unfolding rowsJudged
+  rows-zero table z = first-none (number table) (rowOf days t table) _ (first-all (number table) (rowOf days t table) _ z)
+
+  rows-pass : (table : Table) → GoodTable days t table → rowsJudged days t table ≡ accepted
+  unfolding rowsJudged
+  rows-pass table good = first-none (number table) (rowOf days t table) _ (λ i b. row-fine days t table i (good i b))
+
+  row-stops : (table : Table) (i n : ℕ) → RowRefused month days nonzone t lentCharges lentCredits table i n → n ≢ 0
+      → rowsJudged days t table ≡ refusal n (number table) i
+  unfolding rowsJudged
+  row-stops table i n why d =
+      let its : rowOf days t table i ≡ n = row-number days t table i n (why .broken) in
+      first-at (number table) (rowOf days t table) _ i (why .is-row)
+      (λ j b. row-fine days t table j (why .earlier-rows j b)) (λ z. d (sym its ∙ z))
+      ∙ ap (λ k. refuse k (number table) i) its
+      ∙ refuse-some n (number table) i d
+
+  abbrev Why : Answer → Type 0
+  Why = Refused month days nonzone t lentCharges lentCredits
+
+  pub why-number : (a : Answer) → Why a → a .number ≢ 0
+  why-number a (by-count table e before short) z = omega (arith, ap (λ (b : Answer). b .number) e)
+  why-number a (by-charges e all short) z = omega (arith, ap (λ (b : Answer). b .number) e)
+  why-number a (by-credits e all fit short) z = omega (arith, ap (λ (b : Answer). b .number) e)
+  why-number a (by-month e all roomy bad) z = omega (arith, ap (λ (b : Answer). b .number) e)
+  why-number a (by-nonzone e all roomy known high) z = omega (arith, ap (λ (b : Answer). b .number) e)
+  why-number a (by-row table i n e why) z = broken-number days t table i n (why .broken) (sym (ap (λ (b : Answer). b .number) e) ∙ z)
+
+  pub why-judged : (a : Answer) → Why a → judged month days nonzone t lentCharges lentCredits ≡ a
+  unfolding judged
+  why-judged a why = go why (why-number a why)
+    where
+      go : Why a → a .number ≢ 0 → judged month days nonzone t lentCharges lentCredits ≡ a
+      go (by-count table e before short) d =
+          stays d allRows (stays d headRead (stays d creditsRoom (stays d chargesRoom
+          (table-stops countOf count-zero table a (λ earlier l. count-passes earlier (before earlier l)) (count-stops table short ∙ sym e) d))))
+      go (by-charges e all short) d =
+          stays d allRows (stays d headRead (stays d creditsRoom (onward (counts-pass all) (room-stops charges _ lentCharges short ∙ sym e))))
+      go (by-credits e all fit short) d =
+          stays d allRows
+          (stays d headRead (onward (onward (counts-pass all) (room-passes charges _ lentCharges fit)) (room-stops credits _ lentCredits short ∙ sym e)))
+      go (by-month e all roomy bad) d = stays d allRows (onward (before-head all roomy) (no-month bad ∙ sym e))
+      go (by-nonzone e all roomy known high) d = stays d allRows (onward (before-head all roomy) (no-rate known high ∙ sym e))
+      go (by-row table i n e why) d =
+          onward (onward (before-head (why .frame .counted) (why .frame .roomy)) (head-passes (why .frame)))
+          (table-stops (rowsJudged days t) rows-zero table a (λ earlier l. rows-pass earlier (why .earlier-tables earlier l))
+          (row-stops table i n why (broken-number days t table i n (why .broken)) ∙ sym e) d)
+
+  pub judged-exactly : (a : Answer) → Why a ↔ ((judged month days nonzone t lentCharges lentCredits ≡ a) × (a .number ≢ 0))
+  judged-exactly a = (
+    (λ why. (why-judged a why, why-number a why)),
+    λ p. subst Why (p .0) (judged-why month days nonzone t lentCharges lentCredits (λ z. p .1 (ap (λ (b : Answer). b .number) (sym (p .0)) ∙ z))),
+  )
+
+  pub good-unrefused : GoodMonth month days nonzone t lentCharges lentCredits → judged month days nonzone t lentCharges lentCredits ≡ accepted
+  unfolding judged
+  good-unrefused good =
+      onward (onward (before-head (good .frame .counted) (good .frame .roomy)) (head-passes (good .frame)))
+      (tables-pass (rowsJudged days t) rows-zero (λ table. rows-pass table (good .tables table)))
