@@ -43,7 +43,7 @@ use Rattle.settlement.proofs.Ranges as ranges
 use Rattle.settlement.proofs.Parts as parts
 
 module _ (m : Input) (lentCharges lentCredits : ℕ) where
-  -- a month is accepted, with 0, 0, 0, exactly where its input is good and every division is fine: no good month is refused
+  -- a month is accepted, with 0, 0, 0, exactly where its input is good and every division is fine: no such month is refused
   pub accepted-exactly : (answerOf m lentCharges lentCredits ≡ accepted) ↔ Accepted m lentCharges lentCredits
   accepted-exactly = (
     (λ e. answer-accepted m lentCharges lentCredits (ap (λ (r : Answer). r .number) e)),
@@ -126,7 +126,7 @@ module _ {m : Input} {lentCharges lentCredits : ℕ} (all : Accepted m lentCharg
       → chargesIn m (zoneNumber zones z) ≡ sumTo (ownerCount m) (λ o. amount (networkPots m) z o)
   zone-charges-are-credits-from-it z b = sym (pot-divided (networkPots m) z (all .network-fine .zones-fine z b))
 
-  -- .. which is the network credit of each, and nobody else's: "In each zone the network charges equal the network credits"
+  -- .. which is the network credit of each, and nobody else's: in each zone the network charges equal the network credits
   pub network-credit-is-from-own-zone : (o z : ℕ) → o < ownerCount m → z < zoneCount m → ownerZone owners o ≡ zoneNumber zones z
       → networkCredit m o ≡ amount (networkPots m) z o
   network-credit-is-from-own-zone = parts.credit-from-own-zone all
@@ -150,7 +150,7 @@ module _ {m : Input} {lentCharges lentCredits : ℕ} (all : Accepted m lentCharg
   zone-0-charges-are-nonzone-credits =
       sym (listed-add-up (chargesIn m 0) (ownerCount m) (ownerRequirement owners) (all .network-fine .nonzone-fine))
 
-  -- "over the pool the same holds for black start and for reactive"
+  -- over the pool the same holds for black start and for reactive
   pub service-charges-are-credits : (s : ℕ) → IsService s → sumTo (accountCount m) (serviceCharge m s) ≡ sumTo (ownerCount m) (serviceCredit m s)
   unfolding serviceCharge
   service-charges-are-credits s i =
