@@ -1,7 +1,14 @@
 // A good month, April of 30 days, whose rows have the least and the most that an entry may be, and the lines on months that
 // differ from it: in the head, in the room, in one table, or in one entry of a table. Such a line is good but for what it names.
-use crate::line::judge_line;
 ghost use Prim.Native.Nat.{_<_};
+use crate::line::judge_line;
+use tables::ACCOUNT_WIDTH;
+use tables::LOAD_WIDTH;
+use tables::OWNER_WIDTH;
+use tables::RESERVATION_WIDTH;
+use tables::Table;
+use tables::UNIT_WIDTH;
+use tables::ZONE_WIDTH;
 
 pub(crate) const ZONES: [u64; 6] = [1, 100_000_000, 7, 0, 999, 300];
 
@@ -44,182 +51,135 @@ pub(crate) const RESERVATIONS: [u64; 9] = [
     0,
 ];
 
-pub(crate) fn head(name: &[u8], month: u64, days: u64, nonzone: u64) {
+// A table's words: those of the first or the second changed table where it is one of them, and its own otherwise.
+fn chosen<'a>(
+    table: u64,
+    first: Table,
+    words: &'a [u64],
+    second: Table,
+    others: &'a [u64],
+    own: &'a [u64],
+) -> &'a [u64] {
+    if tables::number(first) == table {
+        return words;
+    }
+    if tables::number(second) == table {
+        return others;
+    }
+    own
+}
+
+// April with another head, other words in two tables, and another room. Where one table is changed it stands for both.
+pub(crate) fn month_as<'a>(
+    name: &[u8],
+    month: u64,
+    days: u64,
+    nonzone: u64,
+    first: Table,
+    words: &'a [u64],
+    second: Table,
+    others: &'a [u64],
+    charges: usize,
+    credits: usize,
+) {
     judge_line(
         name,
         month,
         days,
         nonzone,
-        &ZONES,
-        &OWNERS,
-        &UNITS,
-        &ACCOUNTS,
-        &LOADS,
-        &RESERVATIONS,
+        chosen(answer::ZONES, first, words, second, others, &ZONES),
+        chosen(answer::OWNERS, first, words, second, others, &OWNERS),
+        chosen(answer::UNITS, first, words, second, others, &UNITS),
+        chosen(answer::ACCOUNTS, first, words, second, others, &ACCOUNTS),
+        chosen(answer::LOADS, first, words, second, others, &LOADS),
+        chosen(
+            answer::RESERVATIONS,
+            first,
+            words,
+            second,
+            others,
+            &RESERVATIONS,
+        ),
+        charges,
+        credits,
+    );
+}
+
+pub(crate) fn head(name: &[u8], month: u64, days: u64, nonzone: u64) {
+    let zones = ZONES;
+    month_as(
+        name,
+        month,
+        days,
+        nonzone,
+        Table::Zones,
+        &zones,
+        Table::Zones,
+        &zones,
         96,
         256,
     );
 }
 
 pub(crate) fn room(name: &[u8], charges: usize, credits: usize) {
-    judge_line(
+    let zones = ZONES;
+    month_as(
         name,
         4,
         30,
-        1000,
-        &ZONES,
-        &OWNERS,
-        &UNITS,
-        &ACCOUNTS,
-        &LOADS,
-        &RESERVATIONS,
+        1_000,
+        Table::Zones,
+        &zones,
+        Table::Zones,
+        &zones,
         charges,
         credits,
     );
 }
 
-// A month of these tables, with room for every figure.
-fn april(
+pub(crate) fn tables_as<'a>(
     name: &[u8],
-    zones: &[u64],
-    owners: &[u64],
-    units: &[u64],
-    accounts: &[u64],
-    loads: &[u64],
-    reservations: &[u64],
+    first: Table,
+    words: &'a [u64],
+    second: Table,
+    others: &'a [u64],
 ) {
-    judge_line(
-        name,
-        4,
-        30,
-        1000,
-        zones,
-        owners,
-        units,
-        accounts,
-        loads,
-        reservations,
-        96,
-        256,
-    );
+    month_as(name, 4, 30, 1_000, first, words, second, others, 96, 256);
 }
 
-pub(crate) fn zones_as(name: &[u8], zones: &[u64]) {
-    april(
-        name,
-        zones,
-        &OWNERS,
-        &UNITS,
-        &ACCOUNTS,
-        &LOADS,
-        &RESERVATIONS,
-    );
+pub(crate) fn table_as(name: &[u8], table: Table, words: &[u64]) {
+    tables_as(name, table, words, table, words);
 }
 
-pub(crate) fn zone_entry(name: &[u8], row: usize, column: usize, entry: u64)
-    requires { ⌜ (row < 3) × (column < 2) ⌝ }
+// April with one word of a table changed. A word that the table does not have has no line.
+fn word_as(name: &[u8], table: Table, words: &mut [u64], at: usize, word: u64) {
+    if at < words.len() {
+        words[at] = word;
+        table_as(name, table, words);
+    }
+}
+
+pub(crate) fn entry_as(name: &[u8], table: Table, row: usize, column: usize, entry: u64)
+    requires { ⌜ (row < 4) × (column < 6) ⌝ }
 {
-    let mut zones = ZONES;
-    zones[row * 2 + column] = entry;
-    zones_as(name, &zones);
-}
-
-pub(crate) fn owners_as(name: &[u8], owners: &[u64]) {
-    april(
-        name,
-        &ZONES,
-        owners,
-        &UNITS,
-        &ACCOUNTS,
-        &LOADS,
-        &RESERVATIONS,
-    );
-}
-
-pub(crate) fn owner_entry(name: &[u8], row: usize, column: usize, entry: u64)
-    requires { ⌜ (row < 3) × (column < 3) ⌝ }
-{
-    let mut owners = OWNERS;
-    owners[row * 3 + column] = entry;
-    owners_as(name, &owners);
-}
-
-pub(crate) fn units_as(name: &[u8], units: &[u64]) {
-    april(
-        name,
-        &ZONES,
-        &OWNERS,
-        units,
-        &ACCOUNTS,
-        &LOADS,
-        &RESERVATIONS,
-    );
-}
-
-pub(crate) fn unit_entry(name: &[u8], row: usize, column: usize, entry: u64)
-    requires { ⌜ (row < 3) × (column < 6) ⌝ }
-{
-    let mut units = UNITS;
-    units[row * 6 + column] = entry;
-    units_as(name, &units);
-}
-
-pub(crate) fn accounts_as(name: &[u8], accounts: &[u64]) {
-    april(
-        name,
-        &ZONES,
-        &OWNERS,
-        &UNITS,
-        accounts,
-        &LOADS,
-        &RESERVATIONS,
-    );
-}
-
-pub(crate) fn account_entry(name: &[u8], row: usize, column: usize, entry: u64)
-    requires { ⌜ (row < 3) × (column < 3) ⌝ }
-{
-    let mut accounts = ACCOUNTS;
-    accounts[row * 3 + column] = entry;
-    accounts_as(name, &accounts);
-}
-
-pub(crate) fn loads_as(name: &[u8], loads: &[u64]) {
-    april(
-        name,
-        &ZONES,
-        &OWNERS,
-        &UNITS,
-        &ACCOUNTS,
-        loads,
-        &RESERVATIONS,
-    );
-}
-
-pub(crate) fn load_entry(name: &[u8], row: usize, column: usize, entry: u64)
-    requires { ⌜ (row < 4) × (column < 3) ⌝ }
-{
-    let mut loads = LOADS;
-    loads[row * 3 + column] = entry;
-    loads_as(name, &loads);
-}
-
-pub(crate) fn reservations_as(name: &[u8], reservations: &[u64]) {
-    april(
-        name,
-        &ZONES,
-        &OWNERS,
-        &UNITS,
-        &ACCOUNTS,
-        &LOADS,
-        reservations,
-    );
-}
-
-pub(crate) fn reservation_entry(name: &[u8], row: usize, column: usize, entry: u64)
-    requires { ⌜ (row < 3) × (column < 3) ⌝ }
-{
-    let mut reservations = RESERVATIONS;
-    reservations[row * 3 + column] = entry;
-    reservations_as(name, &reservations);
+    match table {
+        Table::Zones => word_as(name, table, &mut ZONES, row * ZONE_WIDTH + column, entry),
+        Table::Owners => word_as(name, table, &mut OWNERS, row * OWNER_WIDTH + column, entry),
+        Table::Units => word_as(name, table, &mut UNITS, row * UNIT_WIDTH + column, entry),
+        Table::Accounts => word_as(
+            name,
+            table,
+            &mut ACCOUNTS,
+            row * ACCOUNT_WIDTH + column,
+            entry,
+        ),
+        Table::Loads => word_as(name, table, &mut LOADS, row * LOAD_WIDTH + column, entry),
+        Table::Reservations => word_as(
+            name,
+            table,
+            &mut RESERVATIONS,
+            row * RESERVATION_WIDTH + column,
+            entry,
+        ),
+    }
 }

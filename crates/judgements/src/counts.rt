@@ -1,75 +1,68 @@
 // Tables that are not whole rows, and tables of as many rows as there may be, all 0 and so out of range, and of one more.
+ghost use Prim.Native.Nat.{_≤_};
 use crate::april::ACCOUNTS;
 use crate::april::LOADS;
 use crate::april::OWNERS;
 use crate::april::RESERVATIONS;
 use crate::april::UNITS;
 use crate::april::ZONES;
-use crate::april::accounts_as;
-use crate::april::loads_as;
-use crate::april::owners_as;
-use crate::april::reservations_as;
-use crate::april::units_as;
-use crate::april::zones_as;
+use crate::april::table_as;
+use tables::Table;
+use tables::Table::Accounts;
+use tables::Table::Loads;
+use tables::Table::Owners;
+use tables::Table::Reservations;
+use tables::Table::Units;
+use tables::Table::Zones;
 
 fn whole() {
-    zones_as(b"zones a word short", &ZONES[..5]);
-    owners_as(b"owners a word short", &OWNERS[..8]);
-    units_as(b"units a word short", &UNITS[..17]);
-    accounts_as(b"accounts a word short", &ACCOUNTS[..8]);
-    loads_as(b"loads a word short", &LOADS[..11]);
-    reservations_as(b"reservations a word short", &RESERVATIONS[..8]);
+    table_as(b"zones a word short", Zones, &ZONES[..5]);
+    table_as(b"owners a word short", Owners, &OWNERS[..8]);
+    table_as(b"units a word short", Units, &UNITS[..17]);
+    table_as(b"accounts a word short", Accounts, &ACCOUNTS[..8]);
+    table_as(b"loads a word short", Loads, &LOADS[..11]);
+    table_as(
+        b"reservations a word short",
+        Reservations,
+        &RESERVATIONS[..8],
+    );
 }
 
 fn a_word_more() {
-    owners_as(b"owners a word over", &OWNERS[..7]);
-    units_as(b"units a word over", &UNITS[..13]);
-    loads_as(b"loads a word over", &LOADS[..10]);
+    table_as(b"owners a word over", Owners, &OWNERS[..7]);
+    table_as(b"units a word over", Units, &UNITS[..13]);
+    table_as(b"loads a word over", Loads, &LOADS[..10]);
 }
 
-fn most_zones() {
+// The line on April with a table of so many words, all 0.
+fn zeros_as(name: &[u8], table: Table, words: usize)
+    requires { ⌜ words ≤ 2979 ⌝ }
+{
     let zeros = [0u64; 2979];
-    zones_as(b"16 zones", &zeros[..32]);
-    zones_as(b"17 zones", &zeros[..34]);
+    table_as(name, table, &zeros[..words]);
 }
 
-fn most_owners() {
-    let zeros = [0u64; 2979];
-    owners_as(b"64 owners", &zeros[..192]);
-    owners_as(b"65 owners", &zeros[..195]);
+fn most() {
+    zeros_as(b"16 zones", Zones, 32);
+    zeros_as(b"17 zones", Zones, 34);
+    zeros_as(b"64 owners", Owners, 192);
+    zeros_as(b"65 owners", Owners, 195);
+    zeros_as(b"64 units", Units, 384);
+    zeros_as(b"65 units", Units, 390);
 }
 
-fn most_units() {
-    let zeros = [0u64; 2979];
-    units_as(b"64 units", &zeros[..384]);
-    units_as(b"65 units", &zeros[..390]);
-}
-
-fn most_accounts() {
-    let zeros = [0u64; 2979];
-    accounts_as(b"32 accounts", &zeros[..96]);
-    accounts_as(b"33 accounts", &zeros[..99]);
-}
-
-fn most_loads() {
-    let zeros = [0u64; 2979];
-    loads_as(b"992 loads", &zeros[..2976]);
-    loads_as(b"993 loads", &zeros[..2979]);
-}
-
-fn most_reservations() {
-    let zeros = [0u64; 2979];
-    reservations_as(b"32 reservations", &zeros[..96]);
-    reservations_as(b"33 reservations", &zeros[..99]);
+fn later_most() {
+    zeros_as(b"32 accounts", Accounts, 96);
+    zeros_as(b"33 accounts", Accounts, 99);
+    zeros_as(b"992 loads", Loads, 2_976);
+    zeros_as(b"993 loads", Loads, 2_979);
+    zeros_as(b"32 reservations", Reservations, 96);
+    zeros_as(b"33 reservations", Reservations, 99);
 }
 
 pub(crate) fn run() {
     whole();
     a_word_more();
-    most_zones();
-    most_owners();
-    most_units();
-    most_accounts();
-    most_loads();
-    most_reservations();
+    most();
+    later_most();
 }
