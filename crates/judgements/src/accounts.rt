@@ -1,17 +1,17 @@
 // Table 4, accounts: the account, its customer and its zone.
 use crate::april::entry_as;
 use crate::april::table_as;
-use tables::Table::Accounts;
+use answer::ACCOUNTS;
 
 fn outside() {
-    entry_as(b"account 0", Accounts, 0, 0, 0);
-    entry_as(b"account 10000 in the middle", Accounts, 1, 0, 10_000);
-    entry_as(b"customer 0 in the middle", Accounts, 1, 1, 0);
-    entry_as(b"customer 10^9+1 at the end", Accounts, 2, 1, 1_000_000_001);
-    entry_as(b"account in zone 1000", Accounts, 0, 2, 1_000);
+    entry_as(b"account 0", ACCOUNTS, 0, 0, 0);
+    entry_as(b"account 10000 in the middle", ACCOUNTS, 1, 0, 10_000);
+    entry_as(b"customer 0 in the middle", ACCOUNTS, 1, 1, 0);
+    entry_as(b"customer 10^9+1 at the end", ACCOUNTS, 2, 1, 1_000_000_001);
+    entry_as(b"account in zone 1000", ACCOUNTS, 0, 2, 1_000);
     entry_as(
         b"account in zone 2^64-1 at the end",
-        Accounts,
+        ACCOUNTS,
         2,
         2,
         u64::MAX,
@@ -19,33 +19,33 @@ fn outside() {
 }
 
 fn order() {
-    entry_as(b"account again in the middle", Accounts, 1, 0, 1);
-    entry_as(b"account again at the end", Accounts, 2, 0, 2_000);
-    entry_as(b"account below the last", Accounts, 2, 0, 1_999);
+    entry_as(b"account again in the middle", ACCOUNTS, 1, 0, 1);
+    entry_as(b"account again at the end", ACCOUNTS, 2, 0, 2_000);
+    entry_as(b"account below the last", ACCOUNTS, 2, 0, 1_999);
 }
 
 fn links() {
-    entry_as(b"account in unknown zone", Accounts, 0, 2, 2);
-    entry_as(b"account in unknown zone in the middle", Accounts, 1, 2, 6);
-    entry_as(b"account in unknown zone at the end", Accounts, 2, 2, 998);
-    entry_as(b"two accounts in zone 0", Accounts, 0, 2, 0);
+    entry_as(b"account in unknown zone", ACCOUNTS, 0, 2, 2);
+    entry_as(b"account in unknown zone in the middle", ACCOUNTS, 1, 2, 6);
+    entry_as(b"account in unknown zone at the end", ACCOUNTS, 2, 2, 998);
+    entry_as(b"two accounts in zone 0", ACCOUNTS, 0, 2, 0);
 }
 
 fn pairs() {
     table_as(
         b"customer again in its zone in the middle",
-        Accounts,
+        ACCOUNTS,
         &[1, 1, 7, 2_000, 1, 7, 9_999, 2, 7],
     );
-    entry_as(b"customer again in zone 0", Accounts, 2, 2, 0);
+    entry_as(b"customer again in zone 0", ACCOUNTS, 2, 2, 0);
     table_as(
         b"customer again in zone 0 far behind",
-        Accounts,
+        ACCOUNTS,
         &[1, 1, 0, 2_000, 1, 7, 9_999, 1, 0],
     );
     table_as(
         b"customers of one zone",
-        Accounts,
+        ACCOUNTS,
         &[1, 1, 7, 2_000, 2, 7, 9_999, 3, 7],
     );
 }
@@ -53,7 +53,7 @@ fn pairs() {
 fn far_pairs() {
     table_as(
         b"customer again in its zone far behind",
-        Accounts,
+        ACCOUNTS,
         &[
             1,
             1_000_000_000,
@@ -74,7 +74,7 @@ fn far_pairs() {
     );
     table_as(
         b"customer again in its zone from the middle",
-        Accounts,
+        ACCOUNTS,
         &[
             1,
             1_000_000_000,
@@ -95,7 +95,7 @@ fn far_pairs() {
     );
     table_as(
         b"customer in all zones",
-        Accounts,
+        ACCOUNTS,
         &[1, 1, 0, 2_000, 1, 1, 3_000, 1, 7, 9_999, 1, 999],
     );
 }

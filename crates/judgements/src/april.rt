@@ -2,13 +2,7 @@
 // differ from it: in the head, in the room, in one table, or in one entry of a table. Such a line is good but for what it names.
 ghost use Prim.Native.Nat.{_<_};
 use crate::line::judge_line;
-use tables::ACCOUNT_WIDTH;
-use tables::LOAD_WIDTH;
-use tables::OWNER_WIDTH;
-use tables::RESERVATION_WIDTH;
-use tables::Table;
-use tables::UNIT_WIDTH;
-use tables::ZONE_WIDTH;
+use answer::HEAD;
 
 pub(crate) const ZONES: [u64; 6] = [1, 100_000_000, 7, 0, 999, 300];
 
@@ -54,30 +48,30 @@ pub(crate) const RESERVATIONS: [u64; 9] = [
 // A table's words: those of the first or the second changed table where it is one of them, and its own otherwise.
 fn chosen<'a>(
     table: u64,
-    first: Table,
+    first: u64,
     words: &'a [u64],
-    second: Table,
+    second: u64,
     others: &'a [u64],
     own: &'a [u64],
 ) -> &'a [u64] {
-    if tables::number(first) == table {
+    if first == table {
         return words;
     }
-    if tables::number(second) == table {
+    if second == table {
         return others;
     }
     own
 }
 
-// April with another head, other words in two tables, and another room. Where one table is changed it stands for both.
+// April with another head, other words in two tables, and another room. HEAD is no table, and changes none.
 pub(crate) fn month_as<'a>(
     name: &[u8],
     month: u64,
     days: u64,
     nonzone: u64,
-    first: Table,
+    first: u64,
     words: &'a [u64],
-    second: Table,
+    second: u64,
     others: &'a [u64],
     charges: usize,
     credits: usize,
@@ -106,80 +100,45 @@ pub(crate) fn month_as<'a>(
 }
 
 pub(crate) fn head(name: &[u8], month: u64, days: u64, nonzone: u64) {
-    let zones = ZONES;
-    month_as(
-        name,
-        month,
-        days,
-        nonzone,
-        Table::Zones,
-        &zones,
-        Table::Zones,
-        &zones,
-        96,
-        256,
-    );
+    month_as(name, month, days, nonzone, HEAD, &[], HEAD, &[], 96, 256);
 }
 
 pub(crate) fn room(name: &[u8], charges: usize, credits: usize) {
-    let zones = ZONES;
-    month_as(
-        name,
-        4,
-        30,
-        1_000,
-        Table::Zones,
-        &zones,
-        Table::Zones,
-        &zones,
-        charges,
-        credits,
-    );
+    month_as(name, 4, 30, 1_000, HEAD, &[], HEAD, &[], charges, credits);
 }
 
 pub(crate) fn tables_as<'a>(
     name: &[u8],
-    first: Table,
+    first: u64,
     words: &'a [u64],
-    second: Table,
+    second: u64,
     others: &'a [u64],
 ) {
     month_as(name, 4, 30, 1_000, first, words, second, others, 96, 256);
 }
 
-pub(crate) fn table_as(name: &[u8], table: Table, words: &[u64]) {
-    tables_as(name, table, words, table, words);
+pub(crate) fn table_as(name: &[u8], table: u64, words: &[u64]) {
+    tables_as(name, table, words, HEAD, &[]);
 }
 
-// April with one word of a table changed. A word that the table does not have has no line.
-fn word_as(name: &[u8], table: Table, words: &mut [u64], at: usize, word: u64) {
+// April with one word of a table changed. A word that the table does not have gives no line.
+fn word_as(name: &[u8], table: u64, words: &mut [u64], at: usize, word: u64) {
     if at < words.len() {
         words[at] = word;
         table_as(name, table, words);
     }
 }
 
-pub(crate) fn entry_as(name: &[u8], table: Table, row: usize, column: usize, entry: u64)
+pub(crate) fn entry_as(name: &[u8], table: u64, row: usize, column: usize, entry: u64)
     requires { ⌜ (row < 4) × (column < 6) ⌝ }
 {
     match table {
-        Table::Zones => word_as(name, table, &mut ZONES, row * ZONE_WIDTH + column, entry),
-        Table::Owners => word_as(name, table, &mut OWNERS, row * OWNER_WIDTH + column, entry),
-        Table::Units => word_as(name, table, &mut UNITS, row * UNIT_WIDTH + column, entry),
-        Table::Accounts => word_as(
-            name,
-            table,
-            &mut ACCOUNTS,
-            row * ACCOUNT_WIDTH + column,
-            entry,
-        ),
-        Table::Loads => word_as(name, table, &mut LOADS, row * LOAD_WIDTH + column, entry),
-        Table::Reservations => word_as(
-            name,
-            table,
-            &mut RESERVATIONS,
-            row * RESERVATION_WIDTH + column,
-            entry,
-        ),
+        answer::ZONES => word_as(name, table, &mut ZONES, row * 2 + column, entry),
+        answer::OWNERS => word_as(name, table, &mut OWNERS, row * 3 + column, entry),
+        answer::UNITS => word_as(name, table, &mut UNITS, row * 6 + column, entry),
+        answer::ACCOUNTS => word_as(name, table, &mut ACCOUNTS, row * 3 + column, entry),
+        answer::LOADS => word_as(name, table, &mut LOADS, row * 3 + column, entry),
+        answer::RESERVATIONS => word_as(name, table, &mut RESERVATIONS, row * 3 + column, entry),
+        _ => {}
     }
 }

@@ -1,69 +1,52 @@
 // Two defects at once, and which of the two is answered: the earlier step, the earlier table, the earlier row, and in a row the earlier test.
-use crate::april::ACCOUNTS;
-use crate::april::LOADS;
-use crate::april::OWNERS;
-use crate::april::RESERVATIONS;
-use crate::april::UNITS;
-use crate::april::ZONES;
 use crate::april::head;
 use crate::april::month_as;
 use crate::april::table_as;
 use crate::april::tables_as;
-use tables::Table::Accounts;
-use tables::Table::Loads;
-use tables::Table::Owners;
-use tables::Table::Reservations;
-use tables::Table::Units;
-use tables::Table::Zones;
+use answer::ACCOUNTS;
+use answer::HEAD;
+use answer::LOADS;
+use answer::OWNERS;
+use answer::RESERVATIONS;
+use answer::UNITS;
+use answer::ZONES;
 
 fn counts() {
-    tables_as(
-        b"COUNT of zones before owners",
-        Zones,
-        &ZONES[..5],
-        Owners,
-        &OWNERS[..8],
-    );
-    tables_as(
-        b"COUNT of owners before units",
-        Owners,
-        &OWNERS[..8],
-        Units,
-        &UNITS[..17],
-    );
+    tables_as(b"COUNT of zones before owners", ZONES, &[1], OWNERS, &[1]);
+    tables_as(b"COUNT of owners before units", OWNERS, &[1], UNITS, &[1]);
     tables_as(
         b"COUNT of units before accounts",
-        Units,
-        &UNITS[..17],
-        Accounts,
-        &ACCOUNTS[..8],
+        UNITS,
+        &[1],
+        ACCOUNTS,
+        &[1],
     );
 }
 
 fn later_counts() {
     tables_as(
         b"COUNT of accounts before loads",
-        Accounts,
-        &ACCOUNTS[..8],
-        Loads,
-        &LOADS[..11],
+        ACCOUNTS,
+        &[1],
+        LOADS,
+        &[1],
     );
     tables_as(
         b"COUNT of loads before reservations",
-        Loads,
-        &LOADS[..11],
-        Reservations,
-        &RESERVATIONS[..8],
+        LOADS,
+        &[1],
+        RESERVATIONS,
+        &[1],
     );
     month_as(
         b"COUNT before ROOM",
         4,
         30,
         1_000,
-        Reservations,
-        &RESERVATIONS[..8],
-        Reservations,
-        &RESERVATIONS[..8],
+        RESERVATIONS,
+        &[1],
+        HEAD,
+        &[],
         0,
         0,
     );
@@ -75,10 +58,10 @@ fn head_turns() {
         13,
         31,
         1_000,
-        Zones,
-        &ZONES,
-        Zones,
-        &ZONES,
+        HEAD,
+        &[],
+        HEAD,
+        &[],
         9,
         11,
     );
@@ -88,10 +71,10 @@ fn head_turns() {
         4,
         30,
         100_000_001,
-        Zones,
+        ZONES,
         &[0, 0],
-        Zones,
-        &[0, 0],
+        HEAD,
+        &[],
         96,
         256,
     );
@@ -100,23 +83,23 @@ fn head_turns() {
 fn tables() {
     tables_as(
         b"zones before owners",
-        Zones,
+        ZONES,
         &[1, 0, 7, 0, 7, 0],
-        Owners,
+        OWNERS,
         &[0, 1, 0],
     );
     tables_as(
         b"owners before units",
-        Owners,
+        OWNERS,
         &[1, 1, 0, 2, 1, 0, 3, 2, 0],
-        Units,
+        UNITS,
         &[0, 1, 1, 1, 0, 0],
     );
     tables_as(
         b"units before accounts",
-        Units,
+        UNITS,
         &[1, 1, 1, 1, 0, 0, 2, 2, 1, 1, 0, 0],
-        Accounts,
+        ACCOUNTS,
         &[0, 1, 1],
     );
 }
@@ -124,16 +107,16 @@ fn tables() {
 fn later_tables() {
     tables_as(
         b"accounts before loads",
-        Accounts,
+        ACCOUNTS,
         &[1, 1, 0, 2, 2, 0, 3, 1, 0],
-        Loads,
+        LOADS,
         &[0, 1, 0],
     );
     tables_as(
         b"loads before reservations",
-        Loads,
+        LOADS,
         &[1, 1, 0, 2, 1, 0],
-        Reservations,
+        RESERVATIONS,
         &[0, 0, 0],
     );
 }
@@ -141,22 +124,22 @@ fn later_tables() {
 fn rows() {
     table_as(
         b"zone ORDER before a later RANGE",
-        Zones,
+        ZONES,
         &[1, 0, 1, 0, 0, 0],
     );
     table_as(
         b"owner LINK before a later RANGE",
-        Owners,
+        OWNERS,
         &[1, 2, 0, 0, 1, 0],
     );
     table_as(
         b"unit LINK before a later RANGE",
-        Units,
+        UNITS,
         &[1, 2, 1, 1, 0, 0, 2, 1, 1, 3, 0, 0],
     );
     table_as(
         b"account PAIR before a later RANGE",
-        Accounts,
+        ACCOUNTS,
         &[1, 1, 7, 2, 1, 7, 0, 1, 7],
     );
 }
@@ -164,38 +147,38 @@ fn rows() {
 fn later_rows() {
     table_as(
         b"account LINK before a later PAIR",
-        Accounts,
+        ACCOUNTS,
         &[1, 1, 2, 2, 1, 2],
     );
     table_as(
         b"load LINK before a later ORDER",
-        Loads,
+        LOADS,
         &[2, 1, 0, 2, 1, 0],
     );
     table_as(
         b"reservation LINK before a later RANGE",
-        Reservations,
+        RESERVATIONS,
         &[2, 0, 0, 1, 0, 1],
     );
 }
 
 fn ranges() {
-    table_as(b"zone RANGE before ORDER", Zones, &[1, 0, 1, 100_000_001]);
-    table_as(b"owner RANGE before ORDER", Owners, &[1, 1, 0, 1, 0, 0]);
+    table_as(b"zone RANGE before ORDER", ZONES, &[1, 0, 1, 100_000_001]);
+    table_as(b"owner RANGE before ORDER", OWNERS, &[1, 1, 0, 1, 0, 0]);
     table_as(
         b"unit RANGE before ORDER",
-        Units,
+        UNITS,
         &[1, 1, 1, 1, 0, 0, 1, 1, 1, 2, 0, 1],
     );
-    table_as(b"account RANGE before ORDER", Accounts, &[1, 1, 7, 1, 0, 7]);
+    table_as(b"account RANGE before ORDER", ACCOUNTS, &[1, 1, 7, 1, 0, 7]);
     table_as(
         b"load RANGE before ORDER",
-        Loads,
+        LOADS,
         &[1, 1, 0, 1, 1, 1_000_001],
     );
     table_as(
         b"reservation RANGE before ORDER",
-        Reservations,
+        RESERVATIONS,
         &[1, 0, 0, 1, 0, 1],
     );
 }
@@ -203,31 +186,31 @@ fn ranges() {
 fn ranges_and_links() {
     table_as(
         b"owner RANGE before LINK",
-        Owners,
+        OWNERS,
         &[1, 2, 1_000_000_000_001],
     );
-    table_as(b"unit RANGE before LINK", Units, &[1, 2, 1, 3, 0, 0]);
-    table_as(b"account RANGE before LINK", Accounts, &[1, 0, 2]);
-    table_as(b"load RANGE before LINK", Loads, &[2, 31, 0]);
-    table_as(b"reservation RANGE before LINK", Reservations, &[2, 0, 1]);
+    table_as(b"unit RANGE before LINK", UNITS, &[1, 2, 1, 3, 0, 0]);
+    table_as(b"account RANGE before LINK", ACCOUNTS, &[1, 0, 2]);
+    table_as(b"load RANGE before LINK", LOADS, &[2, 31, 0]);
+    table_as(b"reservation RANGE before LINK", RESERVATIONS, &[2, 0, 1]);
 }
 
 fn orders() {
-    table_as(b"owner ORDER before LINK", Owners, &[1, 1, 0, 1, 2, 0]);
+    table_as(b"owner ORDER before LINK", OWNERS, &[1, 1, 0, 1, 2, 0]);
     table_as(
         b"unit ORDER before LINK",
-        Units,
+        UNITS,
         &[1, 1, 1, 1, 0, 0, 1, 2, 1, 1, 0, 0],
     );
-    table_as(b"account ORDER before LINK", Accounts, &[1, 1, 7, 1, 2, 2]);
+    table_as(b"account ORDER before LINK", ACCOUNTS, &[1, 1, 7, 1, 2, 2]);
     table_as(
         b"load ORDER before LINK",
-        Loads,
+        LOADS,
         &[2_000, 1, 0, 1_999, 1, 0],
     );
     table_as(
         b"reservation ORDER before LINK",
-        Reservations,
+        RESERVATIONS,
         &[2_000, 0, 0, 1_999, 0, 0],
     );
 }
@@ -236,10 +219,10 @@ fn orders() {
 fn pairs() {
     table_as(
         b"account RANGE before PAIR",
-        Accounts,
+        ACCOUNTS,
         &[1, 1, 7, 10_000, 1, 7],
     );
-    table_as(b"account ORDER before PAIR", Accounts, &[2, 1, 7, 1, 1, 7]);
+    table_as(b"account ORDER before PAIR", ACCOUNTS, &[2, 1, 7, 1, 1, 7]);
 }
 
 pub(crate) fn run() {
