@@ -50,49 +50,31 @@ fn pairs() {
     );
 }
 
+// Five accounts, the last of which has this customer and this zone.
+fn fifth(name: &[u8], customer: u64, zone: u64) {
+    let accounts = [
+        1,
+        1_000_000_000,
+        7,
+        2_000,
+        1,
+        0,
+        3_000,
+        1,
+        999,
+        4_000,
+        2,
+        0,
+        9_999,
+        customer,
+        zone,
+    ];
+    table_as(name, ACCOUNTS, &accounts);
+}
+
 fn far_pairs() {
-    table_as(
-        b"customer again in its zone far behind",
-        ACCOUNTS,
-        &[
-            1,
-            1_000_000_000,
-            7,
-            2_000,
-            1,
-            0,
-            3_000,
-            1,
-            999,
-            4_000,
-            2,
-            0,
-            9_999,
-            1_000_000_000,
-            7,
-        ],
-    );
-    table_as(
-        b"customer again in its zone from the middle",
-        ACCOUNTS,
-        &[
-            1,
-            1_000_000_000,
-            7,
-            2_000,
-            1,
-            0,
-            3_000,
-            1,
-            999,
-            4_000,
-            2,
-            0,
-            9_999,
-            1,
-            999,
-        ],
-    );
+    fifth(b"customer again in its zone far behind", 1_000_000_000, 7);
+    fifth(b"customer again in its zone from the middle", 1, 999);
     table_as(
         b"customer in all zones",
         ACCOUNTS,

@@ -11,33 +11,20 @@ use answer::RESERVATIONS;
 use answer::UNITS;
 use answer::ZONES;
 
-fn counts() {
-    tables_as(b"COUNT of zones before owners", ZONES, &[1], OWNERS, &[1]);
-    tables_as(b"COUNT of owners before units", OWNERS, &[1], UNITS, &[1]);
-    tables_as(
-        b"COUNT of units before accounts",
-        UNITS,
-        &[1],
-        ACCOUNTS,
-        &[1],
-    );
+// Two tables of one word each, which are not whole rows.
+fn torn(name: &[u8], first: u64, second: u64) {
+    tables_as(name, first, &[1], second, &[1]);
 }
 
-fn later_counts() {
-    tables_as(
-        b"COUNT of accounts before loads",
-        ACCOUNTS,
-        &[1],
-        LOADS,
-        &[1],
-    );
-    tables_as(
-        b"COUNT of loads before reservations",
-        LOADS,
-        &[1],
-        RESERVATIONS,
-        &[1],
-    );
+fn counts() {
+    torn(b"COUNT of zones before owners", ZONES, OWNERS);
+    torn(b"COUNT of owners before units", OWNERS, UNITS);
+    torn(b"COUNT of units before accounts", UNITS, ACCOUNTS);
+    torn(b"COUNT of accounts before loads", ACCOUNTS, LOADS);
+    torn(b"COUNT of loads before reservations", LOADS, RESERVATIONS);
+}
+
+fn steps() {
     month_as(
         b"COUNT before ROOM",
         4,
@@ -50,9 +37,6 @@ fn later_counts() {
         0,
         0,
     );
-}
-
-fn head_turns() {
     month_as(
         b"ROOM before MONTH",
         13,
@@ -227,8 +211,7 @@ fn pairs() {
 
 pub(crate) fn run() {
     counts();
-    later_counts();
-    head_turns();
+    steps();
     tables();
     later_tables();
     rows();
