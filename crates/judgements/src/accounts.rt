@@ -1,4 +1,4 @@
-// Table 4, accounts: the account, its customer and its zone.
+// Table 4, accounts: column 0 the account, column 1 its customer, column 2 its zone.
 use crate::april::entry_as;
 use crate::april::table_as;
 use answer::ACCOUNTS;

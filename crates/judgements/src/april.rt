@@ -1,5 +1,6 @@
 // A good month, April of 30 days, whose rows have the least and the most that an entry may be, and the lines on months that
-// differ from it: in the head, in the room, in one table, or in one entry of a table. Such a line is good but for what it names.
+// differ from it: in the head, in the room, in one table or two, or in one entry of a table. Such a line is good but for what it
+// names. A table is named by its number in an answer.
 ghost use Prim.Native.Nat.{_<_};
 use crate::line::judge_line;
 use answer::HEAD;
@@ -63,7 +64,7 @@ fn chosen<'a>(
     own
 }
 
-// April with another head, other words in two tables, and another room. HEAD is no table, and changes none.
+// April with another head, other words in two tables, and another room. HEAD is no table and changes none.
 pub(crate) fn month_as<'a>(
     name: &[u8],
     month: u64,
@@ -129,6 +130,7 @@ fn word_as(name: &[u8], table: u64, words: &mut [u64], at: usize, word: u64) {
     }
 }
 
+// April with one entry of a table changed, at its row and its column, each from 0.
 pub(crate) fn entry_as(name: &[u8], table: u64, row: usize, column: usize, entry: u64)
     requires { ⌜ (row < 4) × (column < 6) ⌝ }
 {

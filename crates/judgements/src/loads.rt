@@ -1,4 +1,4 @@
-// Table 5, loads: the account, the day of the month and the peak load.
+// Table 5, loads: column 0 the account, column 1 the day of the month, column 2 the peak load.
 use crate::april::entry_as;
 use crate::april::month_as;
 use crate::april::table_as;

@@ -1,4 +1,4 @@
-// Table 2, owners: the owner, its zone and its annual requirement.
+// Table 2, owners: column 0 the owner, column 1 its zone, column 2 its annual requirement.
 use crate::april::entry_as;
 use crate::april::table_as;
 use answer::OWNERS;

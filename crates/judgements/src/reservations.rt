@@ -1,4 +1,4 @@
-// Table 6, reservations: the account, and the energy reserved and curtailed.
+// Table 6, reservations: column 0 the account, columns 1 and 2 the energy reserved and curtailed.
 use crate::april::entry_as;
 use crate::april::table_as;
 use answer::RESERVATIONS;

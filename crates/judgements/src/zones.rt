@@ -1,4 +1,4 @@
-// Table 1, zones: the zone and its rate.
+// Table 1, zones: column 0 the zone, column 1 its rate.
 use crate::april::entry_as;
 use answer::ZONES;
 
