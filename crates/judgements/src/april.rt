@@ -1,7 +1,9 @@
 // A good month, April of 30 days, whose rows have the least and the most that an entry may be, and the lines on months that
-// differ from it: in the head, in the room, in one table, or in one entry of a table. Such a line is good but for what it names.
-use crate::line::judge_line;
+// differ from it: in the head, in the room, in one table or two, or in one entry of a table. Such a line is good but for what it
+// names. A table is named by its number in an answer.
 ghost use Prim.Native.Nat.{_<_};
+use crate::line::judge_line;
+use answer::HEAD;
 
 pub(crate) const ZONES: [u64; 6] = [1, 100_000_000, 7, 0, 999, 300];
 
@@ -44,182 +46,101 @@ pub(crate) const RESERVATIONS: [u64; 9] = [
     0,
 ];
 
-pub(crate) fn head(name: &[u8], month: u64, days: u64, nonzone: u64) {
+// A table's words: those of the first or the second changed table where it is one of them, and its own otherwise.
+fn chosen<'a>(
+    table: u64,
+    first: u64,
+    words: &'a [u64],
+    second: u64,
+    others: &'a [u64],
+    own: &'a [u64],
+) -> &'a [u64] {
+    if first == table {
+        return words;
+    }
+    if second == table {
+        return others;
+    }
+    own
+}
+
+// April with another head, other words in two tables, and another room. HEAD is no table and changes none.
+pub(crate) fn month_as<'a>(
+    name: &[u8],
+    month: u64,
+    days: u64,
+    nonzone: u64,
+    first: u64,
+    words: &'a [u64],
+    second: u64,
+    others: &'a [u64],
+    charges: usize,
+    credits: usize,
+) {
     judge_line(
         name,
         month,
         days,
         nonzone,
-        &ZONES,
-        &OWNERS,
-        &UNITS,
-        &ACCOUNTS,
-        &LOADS,
-        &RESERVATIONS,
-        96,
-        256,
-    );
-}
-
-pub(crate) fn room(name: &[u8], charges: usize, credits: usize) {
-    judge_line(
-        name,
-        4,
-        30,
-        1000,
-        &ZONES,
-        &OWNERS,
-        &UNITS,
-        &ACCOUNTS,
-        &LOADS,
-        &RESERVATIONS,
+        chosen(answer::ZONES, first, words, second, others, &ZONES),
+        chosen(answer::OWNERS, first, words, second, others, &OWNERS),
+        chosen(answer::UNITS, first, words, second, others, &UNITS),
+        chosen(answer::ACCOUNTS, first, words, second, others, &ACCOUNTS),
+        chosen(answer::LOADS, first, words, second, others, &LOADS),
+        chosen(
+            answer::RESERVATIONS,
+            first,
+            words,
+            second,
+            others,
+            &RESERVATIONS,
+        ),
         charges,
         credits,
     );
 }
 
-// A month of these tables, with room for every figure.
-fn april(
+pub(crate) fn head(name: &[u8], month: u64, days: u64, nonzone: u64) {
+    month_as(name, month, days, nonzone, HEAD, &[], HEAD, &[], 96, 256);
+}
+
+pub(crate) fn room(name: &[u8], charges: usize, credits: usize) {
+    month_as(name, 4, 30, 1_000, HEAD, &[], HEAD, &[], charges, credits);
+}
+
+pub(crate) fn tables_as<'a>(
     name: &[u8],
-    zones: &[u64],
-    owners: &[u64],
-    units: &[u64],
-    accounts: &[u64],
-    loads: &[u64],
-    reservations: &[u64],
+    first: u64,
+    words: &'a [u64],
+    second: u64,
+    others: &'a [u64],
 ) {
-    judge_line(
-        name,
-        4,
-        30,
-        1000,
-        zones,
-        owners,
-        units,
-        accounts,
-        loads,
-        reservations,
-        96,
-        256,
-    );
+    month_as(name, 4, 30, 1_000, first, words, second, others, 96, 256);
 }
 
-pub(crate) fn zones_as(name: &[u8], zones: &[u64]) {
-    april(
-        name,
-        zones,
-        &OWNERS,
-        &UNITS,
-        &ACCOUNTS,
-        &LOADS,
-        &RESERVATIONS,
-    );
+pub(crate) fn table_as(name: &[u8], table: u64, words: &[u64]) {
+    tables_as(name, table, words, HEAD, &[]);
 }
 
-pub(crate) fn zone_entry(name: &[u8], row: usize, column: usize, entry: u64)
-    requires { ⌜ (row < 3) × (column < 2) ⌝ }
+// April with one word of a table changed. A word that the table does not have gives no line.
+fn word_as(name: &[u8], table: u64, words: &mut [u64], at: usize, word: u64) {
+    if at < words.len() {
+        words[at] = word;
+        table_as(name, table, words);
+    }
+}
+
+// April with one entry of a table changed, at its row and its column, each from 0.
+pub(crate) fn entry_as(name: &[u8], table: u64, row: usize, column: usize, entry: u64)
+    requires { ⌜ (row < 4) × (column < 6) ⌝ }
 {
-    let mut zones = ZONES;
-    zones[row * 2 + column] = entry;
-    zones_as(name, &zones);
-}
-
-pub(crate) fn owners_as(name: &[u8], owners: &[u64]) {
-    april(
-        name,
-        &ZONES,
-        owners,
-        &UNITS,
-        &ACCOUNTS,
-        &LOADS,
-        &RESERVATIONS,
-    );
-}
-
-pub(crate) fn owner_entry(name: &[u8], row: usize, column: usize, entry: u64)
-    requires { ⌜ (row < 3) × (column < 3) ⌝ }
-{
-    let mut owners = OWNERS;
-    owners[row * 3 + column] = entry;
-    owners_as(name, &owners);
-}
-
-pub(crate) fn units_as(name: &[u8], units: &[u64]) {
-    april(
-        name,
-        &ZONES,
-        &OWNERS,
-        units,
-        &ACCOUNTS,
-        &LOADS,
-        &RESERVATIONS,
-    );
-}
-
-pub(crate) fn unit_entry(name: &[u8], row: usize, column: usize, entry: u64)
-    requires { ⌜ (row < 3) × (column < 6) ⌝ }
-{
-    let mut units = UNITS;
-    units[row * 6 + column] = entry;
-    units_as(name, &units);
-}
-
-pub(crate) fn accounts_as(name: &[u8], accounts: &[u64]) {
-    april(
-        name,
-        &ZONES,
-        &OWNERS,
-        &UNITS,
-        accounts,
-        &LOADS,
-        &RESERVATIONS,
-    );
-}
-
-pub(crate) fn account_entry(name: &[u8], row: usize, column: usize, entry: u64)
-    requires { ⌜ (row < 3) × (column < 3) ⌝ }
-{
-    let mut accounts = ACCOUNTS;
-    accounts[row * 3 + column] = entry;
-    accounts_as(name, &accounts);
-}
-
-pub(crate) fn loads_as(name: &[u8], loads: &[u64]) {
-    april(
-        name,
-        &ZONES,
-        &OWNERS,
-        &UNITS,
-        &ACCOUNTS,
-        loads,
-        &RESERVATIONS,
-    );
-}
-
-pub(crate) fn load_entry(name: &[u8], row: usize, column: usize, entry: u64)
-    requires { ⌜ (row < 4) × (column < 3) ⌝ }
-{
-    let mut loads = LOADS;
-    loads[row * 3 + column] = entry;
-    loads_as(name, &loads);
-}
-
-pub(crate) fn reservations_as(name: &[u8], reservations: &[u64]) {
-    april(
-        name,
-        &ZONES,
-        &OWNERS,
-        &UNITS,
-        &ACCOUNTS,
-        &LOADS,
-        reservations,
-    );
-}
-
-pub(crate) fn reservation_entry(name: &[u8], row: usize, column: usize, entry: u64)
-    requires { ⌜ (row < 3) × (column < 3) ⌝ }
-{
-    let mut reservations = RESERVATIONS;
-    reservations[row * 3 + column] = entry;
-    reservations_as(name, &reservations);
+    match table {
+        answer::ZONES => word_as(name, table, &mut ZONES, row * 2 + column, entry),
+        answer::OWNERS => word_as(name, table, &mut OWNERS, row * 3 + column, entry),
+        answer::UNITS => word_as(name, table, &mut UNITS, row * 6 + column, entry),
+        answer::ACCOUNTS => word_as(name, table, &mut ACCOUNTS, row * 3 + column, entry),
+        answer::LOADS => word_as(name, table, &mut LOADS, row * 3 + column, entry),
+        answer::RESERVATIONS => word_as(name, table, &mut RESERVATIONS, row * 3 + column, entry),
+        _ => {}
+    }
 }

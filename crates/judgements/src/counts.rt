@@ -1,75 +1,55 @@
 // Tables that are not whole rows, and tables of as many rows as there may be, all 0 and so out of range, and of one more.
-use crate::april::ACCOUNTS;
-use crate::april::LOADS;
-use crate::april::OWNERS;
-use crate::april::RESERVATIONS;
-use crate::april::UNITS;
-use crate::april::ZONES;
-use crate::april::accounts_as;
-use crate::april::loads_as;
-use crate::april::owners_as;
-use crate::april::reservations_as;
-use crate::april::units_as;
-use crate::april::zones_as;
+use crate::april;
+use crate::april::table_as;
+use answer::ACCOUNTS;
+use answer::LOADS;
+use answer::OWNERS;
+use answer::RESERVATIONS;
+use answer::UNITS;
+use answer::ZONES;
 
 fn whole() {
-    zones_as(b"zones a word short", &ZONES[..5]);
-    owners_as(b"owners a word short", &OWNERS[..8]);
-    units_as(b"units a word short", &UNITS[..17]);
-    accounts_as(b"accounts a word short", &ACCOUNTS[..8]);
-    loads_as(b"loads a word short", &LOADS[..11]);
-    reservations_as(b"reservations a word short", &RESERVATIONS[..8]);
+    table_as(b"zones a word short", ZONES, &april::ZONES[..5]);
+    table_as(b"owners a word short", OWNERS, &april::OWNERS[..8]);
+    table_as(b"units a word short", UNITS, &april::UNITS[..17]);
+    table_as(b"accounts a word short", ACCOUNTS, &april::ACCOUNTS[..8]);
+    table_as(b"loads a word short", LOADS, &april::LOADS[..11]);
+    table_as(
+        b"reservations a word short",
+        RESERVATIONS,
+        &april::RESERVATIONS[..8],
+    );
 }
 
 fn a_word_more() {
-    owners_as(b"owners a word over", &OWNERS[..7]);
-    units_as(b"units a word over", &UNITS[..13]);
-    loads_as(b"loads a word over", &LOADS[..10]);
+    table_as(b"owners a word over", OWNERS, &april::OWNERS[..7]);
+    table_as(b"units a word over", UNITS, &april::UNITS[..13]);
+    table_as(b"loads a word over", LOADS, &april::LOADS[..10]);
 }
 
-fn most_zones() {
-    let zeros = [0u64; 2979];
-    zones_as(b"16 zones", &zeros[..32]);
-    zones_as(b"17 zones", &zeros[..34]);
+fn most() {
+    let zeros = [0u64; 390];
+    table_as(b"16 zones", ZONES, &zeros[..32]);
+    table_as(b"17 zones", ZONES, &zeros[..34]);
+    table_as(b"64 owners", OWNERS, &zeros[..192]);
+    table_as(b"65 owners", OWNERS, &zeros[..195]);
+    table_as(b"64 units", UNITS, &zeros[..384]);
+    table_as(b"65 units", UNITS, &zeros[..390]);
 }
 
-fn most_owners() {
+fn later_most() {
     let zeros = [0u64; 2979];
-    owners_as(b"64 owners", &zeros[..192]);
-    owners_as(b"65 owners", &zeros[..195]);
-}
-
-fn most_units() {
-    let zeros = [0u64; 2979];
-    units_as(b"64 units", &zeros[..384]);
-    units_as(b"65 units", &zeros[..390]);
-}
-
-fn most_accounts() {
-    let zeros = [0u64; 2979];
-    accounts_as(b"32 accounts", &zeros[..96]);
-    accounts_as(b"33 accounts", &zeros[..99]);
-}
-
-fn most_loads() {
-    let zeros = [0u64; 2979];
-    loads_as(b"992 loads", &zeros[..2976]);
-    loads_as(b"993 loads", &zeros[..2979]);
-}
-
-fn most_reservations() {
-    let zeros = [0u64; 2979];
-    reservations_as(b"32 reservations", &zeros[..96]);
-    reservations_as(b"33 reservations", &zeros[..99]);
+    table_as(b"32 accounts", ACCOUNTS, &zeros[..96]);
+    table_as(b"33 accounts", ACCOUNTS, &zeros[..99]);
+    table_as(b"992 loads", LOADS, &zeros[..2976]);
+    table_as(b"993 loads", LOADS, &zeros[..2979]);
+    table_as(b"32 reservations", RESERVATIONS, &zeros[..96]);
+    table_as(b"33 reservations", RESERVATIONS, &zeros[..99]);
 }
 
 pub(crate) fn run() {
     whole();
     a_word_more();
-    most_zones();
-    most_owners();
-    most_units();
-    most_accounts();
-    most_loads();
-    most_reservations();
+    most();
+    later_most();
 }

@@ -38,13 +38,13 @@ fn lengths() {
     head(b"February of 30", 2, 30, 1_000);
     head(b"April of 29", 4, 29, 1_000);
     head(b"April of 31", 4, 31, 1_000);
-    head(b"April of 2^64-1", 4, 18_446_744_073_709_551_615, 1_000);
+    head(b"April of 2^64-1", 4, u64::MAX, 1_000);
 }
 
 fn rates() {
     head(b"non-zone rate 10^8", 4, 30, 100_000_000);
     head(b"non-zone rate 10^8+1", 4, 30, 100_000_001);
-    head(b"non-zone rate 2^64-1", 4, 30, 18_446_744_073_709_551_615);
+    head(b"non-zone rate 2^64-1", 4, 30, u64::MAX);
 }
 
 fn rooms() {

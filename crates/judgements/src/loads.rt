@@ -1,43 +1,28 @@
-// Table 5, loads: the account, the day of the month and the peak load.
-use crate::april::ACCOUNTS;
-use crate::april::OWNERS;
-use crate::april::RESERVATIONS;
-use crate::april::UNITS;
-use crate::april::ZONES;
-use crate::april::load_entry;
-use crate::april::loads_as;
-use crate::line::judge_line;
+// Table 5, loads: column 0 the account, column 1 the day of the month, column 2 the peak load.
+use crate::april::entry_as;
+use crate::april::month_as;
+use crate::april::table_as;
+use answer::HEAD;
+use answer::LOADS;
 
 fn load_on(name: &[u8], month: u64, days: u64, day: u64) {
-    judge_line(
-        name,
-        month,
-        days,
-        1000,
-        &ZONES,
-        &OWNERS,
-        &UNITS,
-        &ACCOUNTS,
-        &[1, day, 5],
-        &RESERVATIONS,
-        96,
-        256,
-    );
+    let load = [1, day, 5];
+    month_as(name, month, days, 1_000, LOADS, &load, HEAD, &[], 96, 256);
 }
 
 fn outside() {
-    load_entry(b"load of account 0", 0, 0, 0);
-    load_entry(b"load of account 10000 in the middle", 1, 0, 10_000);
-    load_entry(b"day 0", 0, 1, 0);
-    load_entry(b"load 10^6+1 in the middle", 2, 2, 1_000_001);
-    load_entry(b"load 2^64-1 at the end", 3, 2, 18_446_744_073_709_551_615);
+    entry_as(b"load of account 0", LOADS, 0, 0, 0);
+    entry_as(b"load of account 10000 in the middle", LOADS, 1, 0, 10_000);
+    entry_as(b"day 0", LOADS, 0, 1, 0);
+    entry_as(b"load 10^6+1 in the middle", LOADS, 2, 2, 1_000_001);
+    entry_as(b"load 2^64-1 at the end", LOADS, 3, 2, u64::MAX);
 }
 
 fn april() {
-    load_entry(b"day 30 of April", 1, 1, 30);
-    load_entry(b"day 31 of April", 0, 1, 31);
-    load_entry(b"day 31 of April in the middle", 1, 1, 31);
-    load_entry(b"day 31 of April at the end", 3, 1, 31);
+    entry_as(b"day 30 of April", LOADS, 1, 1, 30);
+    entry_as(b"day 31 of April", LOADS, 0, 1, 31);
+    entry_as(b"day 31 of April in the middle", LOADS, 1, 1, 31);
+    entry_as(b"day 31 of April at the end", LOADS, 3, 1, 31);
 }
 
 fn other_months() {
@@ -50,24 +35,26 @@ fn other_months() {
 
 // A load is above another by its account, or by its day where the account is the same.
 fn order() {
-    load_entry(b"day again", 1, 1, 1);
-    load_entry(b"day below the last", 2, 0, 1);
-    load_entry(b"day below the last at the end", 3, 0, 2_000);
-    loads_as(
+    entry_as(b"day again", LOADS, 1, 1, 1);
+    entry_as(b"day below the last", LOADS, 2, 0, 1);
+    entry_as(b"day below the last at the end", LOADS, 3, 0, 2_000);
+    table_as(
         b"account below the last on a later day",
+        LOADS,
         &[1, 1, 5, 2_000, 2, 5, 1, 30, 5],
     );
-    loads_as(
+    table_as(
         b"account above the last on an earlier day",
+        LOADS,
         &[1, 30, 5, 2_000, 2, 5, 9_999, 1, 5],
     );
 }
 
 fn links() {
-    load_entry(b"load of unknown account", 0, 0, 2);
-    load_entry(b"load of unknown account in the middle", 2, 0, 3);
-    load_entry(b"load of unknown account at the end", 3, 0, 9_998);
-    loads_as(b"no loads", &[]);
+    entry_as(b"load of unknown account", LOADS, 0, 0, 2);
+    entry_as(b"load of unknown account in the middle", LOADS, 2, 0, 3);
+    entry_as(b"load of unknown account at the end", LOADS, 3, 0, 9_998);
+    table_as(b"no loads", LOADS, &[]);
 }
 
 pub(crate) fn run() {

@@ -1,57 +1,60 @@
 // Table 3, units: the unit, its owner and zone, its service, its annual requirement and its reserve credit.
-use crate::april::unit_entry;
+use crate::april::entry_as;
+use answer::UNITS;
+use tables::columns::UNIT_NUMBER as NUMBER;
+use tables::columns::UNIT_OWNER as OWNER;
+use tables::columns::UNIT_REQUIREMENT as REQUIREMENT;
+use tables::columns::UNIT_RESERVE as RESERVE;
+use tables::columns::UNIT_SERVICE as SERVICE;
+use tables::columns::UNIT_ZONE as ZONE;
 
 fn outside() {
-    unit_entry(b"unit 0", 0, 0, 0);
-    unit_entry(b"unit 10000 in the middle", 1, 0, 10_000);
-    unit_entry(b"unit of owner 0", 0, 1, 0);
-    unit_entry(b"unit of owner 10000", 1, 1, 10_000);
-    unit_entry(b"unit in zone 0", 1, 2, 0);
-    unit_entry(b"unit in zone 1000", 2, 2, 1_000);
+    entry_as(b"unit 0", UNITS, 0, NUMBER, 0);
+    entry_as(b"unit 10000 in the middle", UNITS, 1, NUMBER, 10_000);
+    entry_as(b"unit of owner 0", UNITS, 0, OWNER, 0);
+    entry_as(b"unit of owner 10000", UNITS, 1, OWNER, 10_000);
+    entry_as(b"unit in zone 0", UNITS, 1, ZONE, 0);
+    entry_as(b"unit in zone 1000", UNITS, 2, ZONE, 1_000);
 }
 
 fn outside_services() {
-    unit_entry(b"service 0", 0, 3, 0);
-    unit_entry(b"service 3", 2, 3, 3);
-    unit_entry(
+    entry_as(b"service 0", UNITS, 0, SERVICE, 0);
+    entry_as(b"service 3", UNITS, 2, SERVICE, 3);
+    entry_as(
         b"requirement 10^12+1 in the middle",
+        UNITS,
         1,
-        4,
+        REQUIREMENT,
         1_000_000_000_001,
     );
-    unit_entry(b"reserve 10^10+1", 0, 5, 10_000_000_001);
-    unit_entry(
-        b"reserve 2^64-1 at the end",
-        2,
-        5,
-        18_446_744_073_709_551_615,
-    );
+    entry_as(b"reserve 10^10+1", UNITS, 0, RESERVE, 10_000_000_001);
+    entry_as(b"reserve 2^64-1 at the end", UNITS, 2, RESERVE, u64::MAX);
 }
 
 fn reserves() {
-    unit_entry(b"reactive with reserve 1", 1, 5, 1);
-    unit_entry(b"reactive with reserve 10^10", 0, 3, 2);
-    unit_entry(b"reactive with no reserve", 2, 3, 2);
-    unit_entry(b"black start with no reserve", 1, 3, 1);
+    entry_as(b"reactive with reserve 1", UNITS, 1, RESERVE, 1);
+    entry_as(b"reactive with reserve 10^10", UNITS, 0, SERVICE, 2);
+    entry_as(b"reactive with no reserve", UNITS, 2, SERVICE, 2);
+    entry_as(b"black start with no reserve", UNITS, 1, SERVICE, 1);
 }
 
 fn order() {
-    unit_entry(b"unit again in the middle", 1, 0, 1);
-    unit_entry(b"unit again at the end", 2, 0, 200);
-    unit_entry(b"unit below the last", 2, 0, 199);
+    entry_as(b"unit again in the middle", UNITS, 1, NUMBER, 1);
+    entry_as(b"unit again at the end", UNITS, 2, NUMBER, 200);
+    entry_as(b"unit below the last", UNITS, 2, NUMBER, 199);
 }
 
 fn owner_links() {
-    unit_entry(b"unit of unknown owner", 0, 1, 2);
-    unit_entry(b"unit of unknown owner in the middle", 1, 1, 21);
-    unit_entry(b"unit of unknown owner at the end", 2, 1, 9_998);
+    entry_as(b"unit of unknown owner", UNITS, 0, OWNER, 2);
+    entry_as(b"unit of unknown owner in the middle", UNITS, 1, OWNER, 21);
+    entry_as(b"unit of unknown owner at the end", UNITS, 2, OWNER, 9_998);
 }
 
 fn zone_links() {
-    unit_entry(b"unit in unknown zone", 0, 2, 2);
-    unit_entry(b"unit in unknown zone in the middle", 1, 2, 6);
-    unit_entry(b"unit in unknown zone at the end", 2, 2, 998);
-    unit_entry(b"unit in another zone than its owner", 0, 2, 999);
+    entry_as(b"unit in unknown zone", UNITS, 0, ZONE, 2);
+    entry_as(b"unit in unknown zone in the middle", UNITS, 1, ZONE, 6);
+    entry_as(b"unit in unknown zone at the end", UNITS, 2, ZONE, 998);
+    entry_as(b"unit in another zone than its owner", UNITS, 0, ZONE, 999);
 }
 
 pub(crate) fn run() {
