@@ -14,6 +14,7 @@ use Rattle.service.specs.Turn as turn
 use Rattle.month.specs.Months.{isMonth, through, twelfth}
 use Rattle.month.specs.Quantities as month
 use Rattle.rows.specs.Rows as rows
+use Rattle.tables.specs.Counts as counts
 use Rattle.judgement.specs.Judgement as judgement
 use Rattle.text.specs.Bytes.{bytes}
 use Rattle.text.specs.Numbers.{isDigit, digitsOn, number, digits, decimal}
@@ -33,5 +34,5 @@ abbrev pub caseStatement : List ℕ
 caseStatement = bytes "charge=1,2000,500,0\ncharge=2,0,500,0\ncredit=1,1333,0,0,0\ncredit=2,667,0,1000,0\ntotal=3000,3000\n"
 
 pub case-s : statementOf caseFile ≡ caseStatement
-unfolding sumTo sumWhere largestFirst listed put refuse _then_ first sizeRefusal quotient remainder leftover comesBefore getsCent share shares turns groups.among groups.weightsIn groups.amount groups.amounts groups.refusal groups.groupsInTurn service.zoneUse service.nonzoneUse service.uses service.zoneSide service.nonzoneSide service.zoneShare service.nonzonePot service.nonzoneParts service.nonzoneShare service.serviceCharge turn.splitRefusal turn.shareRefusal turn.nonzoneRefusal turn.zoneTurn turn.serviceInTurn isMonth through twelfth month.useOf month.nearest month.networkCharge any rows.rowNumber rows.notAbove rows.unknown rows.taken rows.zoneOutside rows.rowIn rows.ownerOutside rows.unitOutside rows.accountOutside rows.loadOutside rows.reservationOutside judgement.inTurn judgement.counted judgement.roomFor judgement.headJudged judgement.rowsJudged judgement.judged contributions reserved curtailed accountUse network.rateOf network.rate network.networkCharge network.chargesIn network.requirements network.networkCredit network.nonzoneCredit network.nonzoneRefusal services.unitCredit services.creditIn services.serviceCredit services.zonePot services.zonePart services.nonzonePart services.serviceCharge networkInTurn divisionsInTurn answerOf chargeOf creditOf chargeWords creditWords isDigit digitsOn number past field fields line digits decimal fieldsText lineText reading.rows reading.heads reading.tables reading.rowsIn reading.ending reading.reading rowsText rowsWith linesText allCharges allCredits statementLines settledAnswer refuseLine settledText statementOf
+unfolding sumTo sumWhere largestFirst listed put refuse _then_ first sizeRefusal quotient remainder leftover comesBefore getsCent share shares turns groups.among groups.weightsIn groups.amount groups.amounts groups.refusal groups.groupsInTurn service.zoneUse service.nonzoneUse service.uses service.zoneSide service.nonzoneSide service.zoneShare service.nonzonePot service.nonzoneParts service.nonzoneShare service.serviceCharge turn.splitRefusal turn.shareRefusal turn.nonzoneRefusal turn.zoneTurn turn.serviceInTurn isMonth through twelfth month.useOf month.nearest month.networkCharge any rows.rowNumber rows.notAbove rows.unknown rows.taken rows.zoneOutside rows.rowIn rows.ownerOutside rows.unitOutside rows.accountOutside rows.loadOutside rows.reservationOutside counts.inTurn counts.counted counts.roomFor judgement.headJudged judgement.rowsJudged judgement.judged contributions reserved curtailed accountUse network.rateOf network.rate network.networkCharge network.chargesIn network.requirements network.networkCredit network.nonzoneCredit network.nonzoneRefusal services.unitCredit services.creditIn services.serviceCredit services.zonePot services.zonePart services.nonzonePart services.serviceCharge networkInTurn divisionsInTurn answerOf chargeOf creditOf chargeWords creditWords isDigit digitsOn number past field fields line digits decimal fieldsText lineText reading.rows reading.heads reading.tables reading.rowsIn reading.ending reading.reading rowsText rowsWith linesText allCharges allCredits statementLines settledAnswer refuseLine settledText statementOf
 case-s = refl
