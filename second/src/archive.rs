@@ -1,13 +1,7 @@
 //! The proved archive's statement.
 
 use crate::refusal::ROOM;
-
-extern "C" {
-    /// Reads a month file, settles it and writes the statement to `out`. The answer's low byte is 0,
-    /// or 2 (ROOM) where `out` is too short, with nothing written; above the low byte is the length
-    /// of the statement, 0 where refused.
-    fn noketualo_statement(text: *const u8, text_len: usize, out: *mut u8, out_len: usize) -> u64;
-}
+use noketualo::raw::noketualo_statement;
 
 /// What the archive answered.
 #[derive(Debug, PartialEq, Eq)]
