@@ -1,6 +1,6 @@
 //! A second settlement of a month, to hold beside the proved one.
 //!
-//! It was written from the paper and the list of its readings alone, without a look at the proved
+//! It was written from the paper and how its open points are read, without a look at the proved
 //! code, so that the two can only agree where both say what the paper says. It takes the plainest
 //! road: 128-bit numbers, vectors, and a list of its own for each zone's owners and accounts.
 //!

@@ -1,5 +1,6 @@
--- What the crates above may cite of a division, and nothing else: how many shares there are, what they add up to, that no
--- weight gets nothing, that dividing among some is dividing among those alone, and that the shares are level.
+-- What the crates above may cite of a division, and nothing else: how many shares there are, what they add up to, that a weight of 0
+-- gets nothing, that dividing among some is dividing among those alone, that the shares are level, what is refused by count and by
+-- size, and what a call leaves in the lent words.
 -- Assumes nothing.
 use mathlib.Core.Path.{_≡_, refl, sym, ap, ap₂, _∙_, subst}
 use mathlib.Core.Logic.{_⊎_, inl, inr, ⊎-elim, _≢_}

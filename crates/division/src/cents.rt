@@ -10,7 +10,8 @@ ghost use Rattle.division.specs.Limits.{mostWeights, weightLimit, sizeRe
 ghost use Rattle.division.specs.Shares.{share};
 ghost use Rattle.division.specs.Steps.{Base, Room, Kept, Cut, CutDown, larger, Between, Settling, handed};
 
-// Remainders that no two positions share: a remainder, then how far its position is from the last one that there can be.
+// How many positions there can be. A key is a remainder times this, and how far its position is from the last one: no two positions
+// share a key.
 const PLACES: u64 = 64;
 
 // No key reaches 2^63.
@@ -188,7 +189,7 @@ fn first_bounds(left: u64, keys: &[u64]) -> Bounds
     bounds
 }
 
-// One cent more at each position that fewer keys stand before than there are cents.
+// One cent more at each position whose key has fewer larger ones than there are cents left.
 fn hand_out(left: u64, keys: &[u64], out: &mut [u64])
     requires { ⌜ length (now keys) ≤ length (now out) ⌝ }
     requires { ⌜ ((i : ℕ) → i < length (now keys) → (at (now out) i ≤ 100_000_000_000) × (at (now keys) i < 2 ^ 63)) ⌝ }

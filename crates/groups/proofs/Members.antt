@@ -20,7 +20,7 @@ module _ (pot n : ℕ) (weight : ℕ → ℕ) (fine : sizeRefusal pot (total (li
       ap (λ k. sumTo k (at (shares pot (listed n weight)))) (sym (length-shares pot (listed n weight) ∙ length-listed n weight))
       ∙ shares-add-up pot (listed n weight) (size-accepted pot (total (listed n weight)) fine .2)
 
-  -- .. and no weight has no share
+  -- .. and a weight of 0 has no share
   pub listed-none : (i : ℕ) → i < n → weight i ≡ 0 → at (shares pot (listed n weight)) i ≡ 0
   listed-none i b e =
       no-weight-no-share pot (listed n weight) (size-accepted pot (total (listed n weight)) fine .2) i

@@ -14,10 +14,10 @@ ghost use Rattle.host.specs.Stores.{WholeWords};
 
 mod words;
 
-// What a value is taken times where it stands in an answer.
+// A value is taken times this, so that it stands above the low byte.
 const ABOVE: u64 = 256;
 
-// The check's value, 1 for yes.
+// The check's whole answers: above the low byte 1 for yes, 0 for no.
 const YES: u64 = ABOVE;
 
 const NO: u64 = 0;

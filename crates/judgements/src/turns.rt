@@ -199,7 +199,7 @@ fn orders() {
     );
 }
 
-// A row that is LINK has no earlier row that it is PAIR with and that is not LINK itself.
+// LINK and PAIR never compete: an account whose zone has no row shares it only with an earlier account that is LINK itself.
 fn pairs() {
     table_as(
         b"account RANGE before PAIR",

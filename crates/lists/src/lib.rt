@@ -1,4 +1,4 @@
-// What every crate shares: a sum that never wraps, a number under a condition, and for the proofs sums, counts and ranks over positions, and lists made
+// What every crate shares: a sum that never wraps, a number where two others are the same, and for the proofs sums, counts and ranks over positions, and lists made
 // entry by entry. `specs/` has the definitions and `proofs/` their laws.
 ghost use mathlib.Core.Path.{_≡_};
 ghost use Prim.Native.Nat.{min};

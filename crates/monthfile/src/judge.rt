@@ -64,7 +64,7 @@ fn one_number(text: &[u8], at: usize, key: &[u8], words: &mut [u64], place: usiz
     next
 }
 
-// The first line number `k`.
+// Line `k` of the head, counted from 0.
 fn head_line(text: &[u8], at: usize, k: usize, head: &mut [u64]) -> usize
     requires { ⌜ k < length (now head) ⌝ }
     ensures { λ r. ⌜ OneTaken (now (text .entry)) (line (headAt k) 1 (drop at (now (text .entry)))) (now (head .entry)) k r (now (head .exit)) ⌝ }

@@ -1,4 +1,4 @@
-// Network divisions that are refused: zones 0 and 1 are places 0 and 1, zone 0's charges are place 2.
+// Network divisions that are refused: the first two zones' divisions are places 0 and 1, that of the border's charges place 2.
 use crate::show::show;
 
 fn base() {

@@ -18,7 +18,8 @@ use tables::columns::OWNER_REQUIREMENT;
 use tables::columns::OWNER_ZONE;
 use tables::columns::ZONE_NUMBER;
 
-// The network divisions in turn: each zone's pot among its owners, and the non-zone pot among all, written to columns of zeros.
+// The network divisions in turn: each zone's pot among its owners, and the non-zone pot among all, written to two columns, the
+// second of zeros.
 fn divide(
     pots: &[u64],
     numbers: &[u64],
@@ -87,7 +88,7 @@ fn credit_in(
 }
 
 // The same, with working words of its own: writes each owner's network credit and non-zone network credit to the first words of
-// two columns of zeros.
+// two columns, the second of zeros.
 pub fn credit(
     zones: &[u64],
     owners: &[u64],

@@ -146,7 +146,7 @@ fn charge(
 }
 
 // Settles a service, of which the first division stands at `place`: writes each account's charge and each owner's credit to the
-// first words of two columns.
+// first words of two columns. Refused, it leaves the charges as they were; the credits, which no division can refuse, are written.
 pub fn settle(
     service: u64,
     month: Month,

@@ -126,11 +126,13 @@ module _ {m : Input} {lentCharges lentCredits : ℕ} (all : Accepted m lentCharg
       → chargesIn m (zoneNumber zones z) ≡ sumTo (ownerCount m) (λ o. amount (networkPots m) z o)
   zone-charges-are-credits-from-it z b = sym (pot-divided (networkPots m) z (all .network-fine .zones-fine z b))
 
-  -- .. which is the network credit of each, and nobody else's: in each zone the network charges equal the network credits
+  -- .. which is the network credit of each
   pub network-credit-is-from-own-zone : (o z : ℕ) → o < ownerCount m → z < zoneCount m → ownerZone owners o ≡ zoneNumber zones z
       → networkCredit m o ≡ amount (networkPots m) z o
   network-credit-is-from-own-zone = parts.credit-from-own-zone all
 
+  -- in each zone the network charges of its accounts add up to what its owners are credited: to the credits of the owners whose zone has
+  -- this zone's number
   pub zone-charges-are-credits : (z : ℕ) → z < zoneCount m
       → chargesIn m (zoneNumber zones z) ≡ sumWhere (ownerCount m) (ownerZone owners) (networkCredit m) (zoneNumber zones z)
   unfolding sumWhere

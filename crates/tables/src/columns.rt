@@ -46,7 +46,7 @@ pub const RESERVATION_RESERVED: usize = 1;
 
 pub const RESERVATION_CURTAILED: usize = 2;
 
-// The entry of row `i` in a column. An entry past the last whole row has no name.
+// The entry of row `i` in a column. Words behind the last whole row are no entries.
 pub fn entry(table: Table, column: usize, words: &[u64], i: usize) -> u64
     requires { ⌜ (i < rows table (now words)) × (column < width table) ⌝ }
     ensures { λ r. ⌜ r ≡ entry table column (now (words .entry)) i ⌝ }

@@ -43,7 +43,7 @@ fn digit_of(byte: u8) -> u64
     wide(byte) - wide(ZERO)
 }
 
-// The digits from `at` on, behind those of a number above 0.
+// The number that begins with `first`, which is above 0, and goes on with the digits from `at` on.
 fn digits_on(text: &[u8], at: usize, first: u64) -> Number
     requires { ⌜ (0 < at) × (at ≤ length (now text)) ⌝ }
     ensures { λ r. ⌜ NumberAt (now (text .entry)) (digitsOn first (drop at (now (text .entry)))) r ⌝ }

@@ -16,8 +16,8 @@ use std::time::Instant;
 
 const ENOUGH: usize = 100;
 
-/// More than any statement: 32 charges and 64 credits of no more than 100 bytes each.
-const ROOMY: usize = 10_000;
+/// Room for any statement.
+const ROOMY: usize = noketualo::STATEMENT_ROOM;
 
 /// What the output is filled with before a call, to see what the call wrote.
 const UNTOUCHED: u8 = 0xa5;

@@ -1,67 +1,56 @@
+-- `monthfile::read` meets its contract.
+-- Assumes nothing.
 use Rattle.tables.specs.Shape.{tablesOf}
 use Rattle.monthfile.proofs.Rooms.{rooms-in-turn, read-no-room, read-refused, read-ready, read-filled}
 use borrow.Author.Needs.{needs}
 use Rattle.monthfile.proofs.read.Statement.{statement}
 use Rattle.monthfile.proofs.read.Tie as tie
 
--- src/lib.rt:50:9
 judge-room-requires : tie.Need-judge-room-requires
 judge-room-requires c κs = search needs
 
--- src/lib.rt:59:9
 nothing-read-requires : tie.Need-nothing-read-requires
 nothing-read-requires c κs = search needs
 
--- src/lib.rt:59:9
 returns : tie.Need-returns
 returns c =
     read-no-room (c .before .before .before .before .before .before .before .before .before .before .before .args .text .now) (tablesOf (c .before .before .before .before .before .before .before .before .before .before .before .args .zones .now) (c .before .before .before .before .before .before .before .before .before .before .before .args .owners .now) (c .before .before .before .before .before .before .before .before .before .before .before .args .units .now) (c .before .before .before .before .before .before .before .before .before .before .before .args .accounts .now) (c .before .before .before .before .before .before .before .before .before .before .before .args .loads .now) (c .before .before .before .before .before .before .before .before .before .before .before .args .reservations .now)) (c .before .before .before .judge-room .result)
     (rooms-in-turn (tablesOf (c .before .before .before .before .before .before .before .before .before .before .before .args .zones .now) (c .before .before .before .before .before .before .before .before .before .before .before .args .owners .now) (c .before .before .before .before .before .before .before .before .before .before .before .args .units .now) (c .before .before .before .before .before .before .before .before .before .before .before .args .accounts .now) (c .before .before .before .before .before .before .before .before .before .before .before .args .loads .now) (c .before .before .before .before .before .before .before .before .before .before .before .args .reservations .now)) (c .before .before .before .judge-room .result) (c .before .before .before .judge-room .ensures))
     (c .before .if1 .taken) (c .nothing-read .result) (c .nothing-read .ensures)
 
--- src/lib.rt:61:9
 judge-text-requires : tie.Need-judge-text-requires
 judge-text-requires c κs = search needs
 
--- src/lib.rt:65:9
 returns-2 : tie.Need-returns-2
 returns-2 c =
     read-refused (c .before .before .before .before .before .before .before .before .before .before .before .before .before .before .before .args .text .now) (tablesOf (c .before .before .before .before .before .before .before .before .before .before .before .before .before .before .before .args .zones .now) (c .before .before .before .before .before .before .before .before .before .before .before .before .before .before .before .args .owners .now) (c .before .before .before .before .before .before .before .before .before .before .before .before .before .before .before .args .units .now) (c .before .before .before .before .before .before .before .before .before .before .before .before .before .before .before .args .accounts .now) (c .before .before .before .before .before .before .before .before .before .before .before .before .before .before .before .args .loads .now) (c .before .before .before .before .before .before .before .before .before .before .before .before .before .before .before .args .reservations .now)) (c .before .before .before .before .before .before .before .judge-room .result)
     (rooms-in-turn (tablesOf (c .before .before .before .before .before .before .before .before .before .before .before .before .before .before .before .args .zones .now) (c .before .before .before .before .before .before .before .before .before .before .before .before .before .before .before .args .owners .now) (c .before .before .before .before .before .before .before .before .before .before .before .before .before .before .before .args .units .now) (c .before .before .before .before .before .before .before .before .before .before .before .before .before .before .before .args .accounts .now) (c .before .before .before .before .before .before .before .before .before .before .before .before .before .before .before .args .loads .now) (c .before .before .before .before .before .before .before .before .before .before .before .before .before .before .before .args .reservations .now)) (c .before .before .before .before .before .before .before .judge-room .result) (c .before .before .before .before .before .before .before .judge-room .ensures))
     (c .before .before .before .before .before .if1 .left) (c .before .before .before .before .judge-text .result .held) (c .before .before .before .before .judge-text .result .body) (c .before .before .before .before .judge-text .ensures) (c .if2 .taken)
 
--- src/lib.rt:67:5
 fill-requires : tie.Need-fill-requires
 fill-requires c κs =
     read-ready (c .before .before .before .before .before .before .before .before .before .before .before .before .before .before .before .before .before .before .before .before .before .args .text .now) (tablesOf (c .before .before .before .before .before .before .before .before .before .before .before .before .before .before .before .before .before .before .before .before .before .args .zones .now) (c .before .before .before .before .before .before .before .before .before .before .before .before .before .before .before .before .before .before .before .before .before .args .owners .now) (c .before .before .before .before .before .before .before .before .before .before .before .before .before .before .before .before .before .before .before .before .before .args .units .now) (c .before .before .before .before .before .before .before .before .before .before .before .before .before .before .before .before .before .before .before .before .before .args .accounts .now) (c .before .before .before .before .before .before .before .before .before .before .before .before .before .before .before .before .before .before .before .before .before .args .loads .now) (c .before .before .before .before .before .before .before .before .before .before .before .before .before .before .before .before .before .before .before .before .before .args .reservations .now)) (c .before .before .before .before .before .before .before .before .before .before .before .before .before .judge-room .result)
     (rooms-in-turn (tablesOf (c .before .before .before .before .before .before .before .before .before .before .before .before .before .before .before .before .before .before .before .before .before .args .zones .now) (c .before .before .before .before .before .before .before .before .before .before .before .before .before .before .before .before .before .before .before .before .before .args .owners .now) (c .before .before .before .before .before .before .before .before .before .before .before .before .before .before .before .before .before .before .before .before .before .args .units .now) (c .before .before .before .before .before .before .before .before .before .before .before .before .before .before .before .before .before .before .before .before .before .args .accounts .now) (c .before .before .before .before .before .before .before .before .before .before .before .before .before .before .before .before .before .before .before .before .before .args .loads .now) (c .before .before .before .before .before .before .before .before .before .before .before .before .before .before .before .before .before .before .before .before .before .args .reservations .now)) (c .before .before .before .before .before .before .before .before .before .before .before .before .before .judge-room .result) (c .before .before .before .before .before .before .before .before .before .before .before .before .before .judge-room .ensures))
     (c .before .before .before .before .before .before .before .before .before .before .before .if1 .left) (c .before .before .before .before .before .before .before .before .before .before .judge-text .result .held) (c .before .before .before .before .before .before .before .before .before .before .judge-text .result .body) (c .before .before .before .before .before .before .before .before .before .before .judge-text .ensures) (c .before .before .before .before .before .before .if2 .left)
 
--- src/lib.rt:39:1
 same-length : tie.Need-same-length
 same-length c = c .before .before .before .before .before .before .before .before .before .before .before .before .fill .kept .1 .1 .1 .0
 
--- src/lib.rt:39:1
 same-length-2 : tie.Need-same-length-2
 same-length-2 c = c .before .before .before .before .before .before .before .before .before .before .before .before .fill .kept .1 .1 .1 .1 .0
 
--- src/lib.rt:39:1
 same-length-3 : tie.Need-same-length-3
 same-length-3 c = c .before .before .before .before .before .before .before .before .before .before .before .before .fill .kept .1 .1 .1 .1 .1 .0
 
--- src/lib.rt:39:1
 same-length-4 : tie.Need-same-length-4
 same-length-4 c = c .before .before .before .before .before .before .before .before .before .before .before .before .fill .kept .1 .1 .1 .1 .1 .1 .0
 
--- src/lib.rt:39:1
 same-length-5 : tie.Need-same-length-5
 same-length-5 c = c .before .before .before .before .before .before .before .before .before .before .before .before .fill .kept .1 .1 .1 .1 .1 .1 .1 .0
 
--- src/lib.rt:39:1
 same-length-6 : tie.Need-same-length-6
 same-length-6 c = c .before .before .before .before .before .before .before .before .before .before .before .before .fill .kept .1 .1 .1 .1 .1 .1 .1 .1 .0
 
--- src/lib.rt:39:1
 returns-3 : tie.Need-returns-3
 returns-3 c =
     let filled = c .before .before .before .before .before .before .before .before .before .before .before .before .fill .last in

@@ -1,3 +1,5 @@
+-- `monthfile::write` meets its contract.
+-- Assumes nothing.
 use Rattle.tables.specs.Shape.{Tables, tablesOf}
 use Rattle.monthfile.proofs.Pieces.{counts-in-turn, write-counts, write-short, write-fits, write-fine}
 use borrow.Author.Needs.{needs}
@@ -7,51 +9,41 @@ use Rattle.monthfile.proofs.write.Tie as tie
 abbrev lent : tie.Start → Tables
 lent e = tablesOf (e .args .zones .now) (e .args .owners .now) (e .args .units .now) (e .args .accounts .now) (e .args .loads .now) (e .args .reservations .now)
 
--- src/lib.rt:88:9
 judge-counts-requires : tie.Need-judge-counts-requires
 judge-counts-requires c κs = search needs
 
--- src/lib.rt:97:9
 returns : tie.Need-returns
 returns c =
     write-counts (c .before .before .before .before .before .before .before .before .before .before .args .month) (c .before .before .before .before .before .before .before .before .before .before .args .days) (c .before .before .before .before .before .before .before .before .before .before .args .nonzone) (lent (c .before .before .before .before .before .before .before .before .before .before)) (c .before .before .before .before .before .before .before .before .before .before .args .out .now) (c .before .before .judge-counts .result)
     (counts-in-turn (lent (c .before .before .before .before .before .before .before .before .before .before)) (c .before .before .judge-counts .result) (c .before .before .judge-counts .ensures)) (c .if1 .taken)
 
--- src/lib.rt:100:106
 add-text-size : tie.Need-add-text-size
 add-text-size c = search needs
 
--- src/lib.rt:100:9
 text-size-requires : tie.Need-text-size-requires
 text-size-requires c κs = search needs
 
--- src/lib.rt:102:13
 refused-requires : tie.Need-refused-requires
 refused-requires c κs = search needs
 
--- src/lib.rt:103:9
 returns-2 : tie.Need-returns-2
 returns-2 c =
     write-short (c .before .before .before .before .before .before .before .before .before .before .before .before .before .args .month) (c .before .before .before .before .before .before .before .before .before .before .before .before .before .args .days) (c .before .before .before .before .before .before .before .before .before .before .before .before .before .args .nonzone) (lent (c .before .before .before .before .before .before .before .before .before .before .before .before .before)) (c .before .before .before .before .before .before .before .before .before .before .before .before .before .args .out .now) (c .before .before .before .before .before .judge-counts .result)
     (counts-in-turn (lent (c .before .before .before .before .before .before .before .before .before .before .before .before .before)) (c .before .before .before .before .before .judge-counts .result) (c .before .before .before .before .before .judge-counts .ensures)) (c .before .before .before .if1 .left) (c .before .before .text-size .result) (c .before .before .text-size .ensures)
     (c .before .if2 .taken) (c .refused .result) (c .refused .ensures)
 
--- src/lib.rt:105:9
 put-text-requires : tie.Need-put-text-requires
 put-text-requires c κs =
     write-fits (c .before .before .before .before .before .before .before .before .before .before .before .before .before .args .month) (c .before .before .before .before .before .before .before .before .before .before .before .before .before .args .days) (c .before .before .before .before .before .before .before .before .before .before .before .before .before .args .nonzone) (lent (c .before .before .before .before .before .before .before .before .before .before .before .before .before)) (c .before .before .before .before .before .before .before .before .before .before .before .before .before .args .out .now) (c .before .before .before .before .before .judge-counts .result)
     (counts-in-turn (lent (c .before .before .before .before .before .before .before .before .before .before .before .before .before)) (c .before .before .before .before .before .judge-counts .result) (c .before .before .before .before .before .judge-counts .ensures)) (c .before .before .before .if1 .left) (c .before .before .text-size .result) (c .before .before .text-size .ensures)
     (c .before .if2 .left)
 
--- src/lib.rt:106:9
 refused-requires-2 : tie.Need-refused-requires-2
 refused-requires-2 c κs = search needs
 
--- src/lib.rt:74:1
 same-length : tie.Need-same-length
 same-length c = c .before .before .before .put-text .kept .1 .1 .1 .1 .1 .1 .1 .1 .1 .0
 
--- src/lib.rt:74:1
 returns-3 : tie.Need-returns-3
 returns-3 c =
     write-fine (c .before .before .before .before .before .before .before .before .before .before .before .before .before .before .before .before .before .args .month) (c .before .before .before .before .before .before .before .before .before .before .before .before .before .before .before .before .before .args .days) (c .before .before .before .before .before .before .before .before .before .before .before .before .before .before .before .before .before .args .nonzone) (lent (c .before .before .before .before .before .before .before .before .before .before .before .before .before .before .before .before .before)) (c .before .before .before .before .before .before .before .before .before .before .before .before .before .before .before .before .before .args .out .now) (c .before .before .before .before .before .before .before .before .before .judge-counts .result)

@@ -1,4 +1,4 @@
--- `division::cents::share_out` meets its contract: what its two loops store is the shares.
+-- `division::cents::share_out` meets its contract: what `cut_down` and `hand_out` store is the shares.
 -- Assumes nothing.
 use mathlib.Core.Path.{_≡_, refl, sym, ap, ap₂, _∙_, subst}
 use Prim.Native.Nat.{_+_}

@@ -1,4 +1,4 @@
--- `divisions::divide` is safe: the words asked for are there to lend.
+-- `figures::divisions::divide` is safe: the words asked for are there to lend.
 -- Assumes nothing.
 use native.Mathlib.Omega.{arith}
 use lib.ListN.{length-take}

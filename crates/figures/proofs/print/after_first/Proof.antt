@@ -1,4 +1,4 @@
--- `print::after_first` is safe and ends: the measure is what is left of the length.
+-- `figures::print::after_first` is safe and ends: the measure is what is left of the length.
 -- Assumes nothing.
 use Prim.Native.Nat.{_-_}
 use native.Mathlib.Omega.{arith}

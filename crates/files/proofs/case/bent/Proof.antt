@@ -1,4 +1,4 @@
--- `case::bent` is safe: what is left of case S and the piece fit in the 256 bytes.
+-- `files::case::bent` is safe: what is left of case S and the piece fit in the 256 bytes.
 -- Assumes nothing.
 use native.Mathlib.Omega.{arith}
 use lib.ListN.{length-take}

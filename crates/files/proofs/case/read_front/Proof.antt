@@ -1,4 +1,4 @@
--- `case::read_front` is safe: the front is inside the text.
+-- `files::case::read_front` is safe: the front is inside the text.
 -- Assumes nothing.
 use native.Mathlib.Omega.{arith}
 use lib.ListN.{length-take}

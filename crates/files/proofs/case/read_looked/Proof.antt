@@ -1,4 +1,4 @@
--- `case::read_looked` is safe: the words asked for are there to lend.
+-- `files::case::read_looked` is safe: the words asked for are there to lend.
 -- Assumes nothing.
 use native.Mathlib.Omega.{arith}
 use lib.ListN.{length-take}

@@ -1,4 +1,4 @@
--- `case::write_again` is safe: the rows of case S are there to lend.
+-- `files::case::write_again` is safe: the rows of case S are there to lend.
 -- Assumes nothing.
 use native.Mathlib.Omega.{arith}
 use lib.ListN.{length-take}

@@ -1,4 +1,4 @@
--- `counts::fronts` is safe: so many words are there to lend.
+-- `files::counts::fronts` is safe: so many words are there to lend.
 -- Assumes nothing.
 use native.Mathlib.Omega.{arith}
 use lib.ListN.{length-take}

@@ -1,4 +1,4 @@
--- `marks::changed_words` is safe and ends: no more are counted than were looked at, and the measure is what is left to look at.
+-- `files::marks::changed_words` is safe and ends: no more are counted than were looked at, and the measure is what is left to look at.
 -- Assumes nothing.
 use mathlib.Core.Logic.{⊎-elim}
 use Prim.Native.Nat.{_≤_, _-_}

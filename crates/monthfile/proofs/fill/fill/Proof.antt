@@ -1,3 +1,5 @@
+-- `monthfile::fill::fill` meets its contract.
+-- Assumes nothing.
 use mathlib.Core.Path.{_≡_, sym, ap, _∙_}
 use Prim.Native.Nat.{ℕ}
 use lib.ListN.{drop}
@@ -74,91 +76,72 @@ written6 c =
     stage-written (kindOf Reservations) (later 6) (text (c .before .before .before .before .before .before .before .before .before .before .before .before .before .before .before .before .before .before .before .before .before .before .before .before .before .before .before .before .before .before .before .before .before .before .before)) (c .before .before .before .before .before .take-rows5 .result) ((c .before .before .before .before .before .before .before .before .before .before .before .before .before .before .before .before .before .before .before .before .before .before .before .before .before .before .before .before .before .before .before .before .before .before .before) .pre .ts) 5 ((c .before .before .before .before .before .before .before .before .before .before .before .before .before .before .before .before .before .before .before .before .before .before .before .before .before .before .before .before .before .before .before .before .before .before .before) .pre .rest) (read5 (c .before .before .before .before .before)) ((c .before .before .before .before .before .before .before .before .before .before .before .before .before .before .before .before .before .before .before .before .before .before .before .before .before .before .before .before .before .before .before .before .before .before .before) .args .held .reservations) ((c .before .before .before .before .before .before .before .before .before .before .before .before .before .before .before .before .before .before .before .before .before .before .before .before .before .before .before .before .before .before .before .before .before .before .before) .pre .reservation-rows)
     (c .before .before .before .before .before .before .before .before .before .before .before .before .before .before .before .before .before .before .before .before .before .before .before .before .before .before .before .before .before .before .before .before .before .before .before .args .reservations .now) (c .take-rows6 .result) (c .take-rows6 .last .1 .1 .1 .1 .1 .0) (c .take-rows6 .ensures)
 
--- src/fill.rt:23:44
 slice-aggregate-take-rows : tie.Need-slice-aggregate-take-rows
 slice-aggregate-take-rows c = search needs
 
--- src/fill.rt:23:9
 take-rows-requires : tie.Need-take-rows-requires
 take-rows-requires c κs =
     stage-requires (kindOf Zones) (later 1) (text (c .before .before .before .before .before .before .before .before .before)) (c .before .before .before .before .before .before .before .before .before .args .body) ((c .before .before .before .before .before .before .before .before .before) .pre .ts) 0 ((c .before .before .before .before .before .before .before .before .before) .pre .rest) (c .before .before .before .before .before .before .before .before .before .pre .read) ((c .before .before .before .before .before .before .before .before .before) .args .held .zones) ((c .before .before .before .before .before .before .before .before .before) .pre .zone-rows)
     (c .before .before .before .before .before .before .before .before .before .pre .inside) (c .before .before .before .before .before .before .before .before .before .args .zones .now) (c .before .before .before .before .before .before .before .before .before .pre .room Zones)
 
--- src/fill.rt:24:46
 slice-aggregate-take-rows-2 : tie.Need-slice-aggregate-take-rows-2
 slice-aggregate-take-rows-2 c = search needs
 
--- src/fill.rt:24:9
 take-rows-requires-2 : tie.Need-take-rows-requires-2
 take-rows-requires-2 c κs =
     stage-requires (kindOf Owners) (later 2) (text (c .before .before .before .before .before .before .before .before .before .before .before .before .before .before)) (c .before .before .before .before .take-rows .result) ((c .before .before .before .before .before .before .before .before .before .before .before .before .before .before) .pre .ts) 1 ((c .before .before .before .before .before .before .before .before .before .before .before .before .before .before) .pre .rest) (read1 (c .before .before .before .before)) ((c .before .before .before .before .before .before .before .before .before .before .before .before .before .before) .args .held .owners) ((c .before .before .before .before .before .before .before .before .before .before .before .before .before .before) .pre .owner-rows)
     (c .before .before .before .before .take-rows .ensures .inside) (c .before .before .before .before .before .before .before .before .before .before .before .before .before .before .args .owners .now) (c .before .before .before .before .before .before .before .before .before .before .before .before .before .before .pre .room Owners)
 
--- src/fill.rt:25:46
 slice-aggregate-take-rows-3 : tie.Need-slice-aggregate-take-rows-3
 slice-aggregate-take-rows-3 c = search needs
 
--- src/fill.rt:25:9
 take-rows-requires-3 : tie.Need-take-rows-requires-3
 take-rows-requires-3 c κs =
     stage-requires (kindOf Units) (later 3) (text (c .before .before .before .before .before .before .before .before .before .before .before .before .before .before .before .before .before .before .before)) (c .before .before .before .before .take-rows2 .result) ((c .before .before .before .before .before .before .before .before .before .before .before .before .before .before .before .before .before .before .before) .pre .ts) 2 ((c .before .before .before .before .before .before .before .before .before .before .before .before .before .before .before .before .before .before .before) .pre .rest) (read2 (c .before .before .before .before)) ((c .before .before .before .before .before .before .before .before .before .before .before .before .before .before .before .before .before .before .before) .args .held .units) ((c .before .before .before .before .before .before .before .before .before .before .before .before .before .before .before .before .before .before .before) .pre .unit-rows)
     (c .before .before .before .before .take-rows2 .ensures .inside) (c .before .before .before .before .before .before .before .before .before .before .before .before .before .before .before .before .before .before .before .args .units .now) (c .before .before .before .before .before .before .before .before .before .before .before .before .before .before .before .before .before .before .before .pre .room Units)
 
--- src/fill.rt:26:46
 slice-aggregate-take-rows-4 : tie.Need-slice-aggregate-take-rows-4
 slice-aggregate-take-rows-4 c = search needs
 
--- src/fill.rt:26:9
 take-rows-requires-4 : tie.Need-take-rows-requires-4
 take-rows-requires-4 c κs =
     stage-requires (kindOf Accounts) (later 4) (text (c .before .before .before .before .before .before .before .before .before .before .before .before .before .before .before .before .before .before .before .before .before .before .before .before)) (c .before .before .before .before .take-rows3 .result) ((c .before .before .before .before .before .before .before .before .before .before .before .before .before .before .before .before .before .before .before .before .before .before .before .before) .pre .ts) 3 ((c .before .before .before .before .before .before .before .before .before .before .before .before .before .before .before .before .before .before .before .before .before .before .before .before) .pre .rest) (read3 (c .before .before .before .before)) ((c .before .before .before .before .before .before .before .before .before .before .before .before .before .before .before .before .before .before .before .before .before .before .before .before) .args .held .accounts) ((c .before .before .before .before .before .before .before .before .before .before .before .before .before .before .before .before .before .before .before .before .before .before .before .before) .pre .account-rows)
     (c .before .before .before .before .take-rows3 .ensures .inside) (c .before .before .before .before .before .before .before .before .before .before .before .before .before .before .before .before .before .before .before .before .before .before .before .before .args .accounts .now) (c .before .before .before .before .before .before .before .before .before .before .before .before .before .before .before .before .before .before .before .before .before .before .before .before .pre .room Accounts)
 
--- src/fill.rt:27:46
 slice-aggregate-take-rows-5 : tie.Need-slice-aggregate-take-rows-5
 slice-aggregate-take-rows-5 c = search needs
 
--- src/fill.rt:27:9
 take-rows-requires-5 : tie.Need-take-rows-requires-5
 take-rows-requires-5 c κs =
     stage-requires (kindOf Loads) (later 5) (text (c .before .before .before .before .before .before .before .before .before .before .before .before .before .before .before .before .before .before .before .before .before .before .before .before .before .before .before .before .before)) (c .before .before .before .before .take-rows4 .result) ((c .before .before .before .before .before .before .before .before .before .before .before .before .before .before .before .before .before .before .before .before .before .before .before .before .before .before .before .before .before) .pre .ts) 4 ((c .before .before .before .before .before .before .before .before .before .before .before .before .before .before .before .before .before .before .before .before .before .before .before .before .before .before .before .before .before) .pre .rest) (read4 (c .before .before .before .before)) ((c .before .before .before .before .before .before .before .before .before .before .before .before .before .before .before .before .before .before .before .before .before .before .before .before .before .before .before .before .before) .args .held .loads) ((c .before .before .before .before .before .before .before .before .before .before .before .before .before .before .before .before .before .before .before .before .before .before .before .before .before .before .before .before .before) .pre .load-rows)
     (c .before .before .before .before .take-rows4 .ensures .inside) (c .before .before .before .before .before .before .before .before .before .before .before .before .before .before .before .before .before .before .before .before .before .before .before .before .before .before .before .before .before .args .loads .now) (c .before .before .before .before .before .before .before .before .before .before .before .before .before .before .before .before .before .before .before .before .before .before .before .before .before .before .before .before .before .pre .room Loads)
 
--- src/fill.rt:28:33
 slice-aggregate-take-rows-6 : tie.Need-slice-aggregate-take-rows-6
 slice-aggregate-take-rows-6 c = search needs
 
--- src/fill.rt:28:5
 take-rows-requires-6 : tie.Need-take-rows-requires-6
 take-rows-requires-6 c κs =
     stage-requires (kindOf Reservations) (later 6) (text (c .before .before .before .before .before .before .before .before .before .before .before .before .before .before .before .before .before .before .before .before .before .before .before .before .before .before .before .before .before .before .before .before .before .before)) (c .before .before .before .before .take-rows5 .result) ((c .before .before .before .before .before .before .before .before .before .before .before .before .before .before .before .before .before .before .before .before .before .before .before .before .before .before .before .before .before .before .before .before .before .before) .pre .ts) 5 ((c .before .before .before .before .before .before .before .before .before .before .before .before .before .before .before .before .before .before .before .before .before .before .before .before .before .before .before .before .before .before .before .before .before .before) .pre .rest) (read5 (c .before .before .before .before)) ((c .before .before .before .before .before .before .before .before .before .before .before .before .before .before .before .before .before .before .before .before .before .before .before .before .before .before .before .before .before .before .before .before .before .before) .args .held .reservations) ((c .before .before .before .before .before .before .before .before .before .before .before .before .before .before .before .before .before .before .before .before .before .before .before .before .before .before .before .before .before .before .before .before .before .before) .pre .reservation-rows)
     (c .before .before .before .before .take-rows5 .ensures .inside) (c .before .before .before .before .before .before .before .before .before .before .before .before .before .before .before .before .before .before .before .before .before .before .before .before .before .before .before .before .before .before .before .before .before .before .args .reservations .now) (c .before .before .before .before .before .before .before .before .before .before .before .before .before .before .before .before .before .before .before .before .before .before .before .before .before .before .before .before .before .before .before .before .before .before .pre .room Reservations)
 
--- src/fill.rt:9:1
 same-length : tie.Need-same-length
 same-length c = c .before .before .before .before .before .before .before .before .before .before .before .before .before .before .before .before .before .before .before .before .before .before .before .before .before .before .before .take-rows .kept .1 .1 .1 .1 .1 .0
 
--- src/fill.rt:9:1
 same-length-2 : tie.Need-same-length-2
 same-length-2 c = c .before .before .before .before .before .before .before .before .before .before .before .before .before .before .before .before .before .before .before .before .before .before .take-rows2 .kept .1 .1 .1 .1 .1 .0
 
--- src/fill.rt:9:1
 same-length-3 : tie.Need-same-length-3
 same-length-3 c = c .before .before .before .before .before .before .before .before .before .before .before .before .before .before .before .before .before .take-rows3 .kept .1 .1 .1 .1 .1 .0
 
--- src/fill.rt:9:1
 same-length-4 : tie.Need-same-length-4
 same-length-4 c = c .before .before .before .before .before .before .before .before .before .before .before .before .take-rows4 .kept .1 .1 .1 .1 .1 .0
 
--- src/fill.rt:9:1
 same-length-5 : tie.Need-same-length-5
 same-length-5 c = c .before .before .before .before .before .before .before .take-rows5 .kept .1 .1 .1 .1 .1 .0
 
--- src/fill.rt:9:1
 same-length-6 : tie.Need-same-length-6
 same-length-6 c = c .before .before .take-rows6 .kept .1 .1 .1 .1 .1 .0
 
--- src/fill.rt:9:1
 returns : tie.Need-returns
 returns c =
     let start = c .before .before .before .before .before .before .before .before .before .before .before .before .before .before .before .before .before .before .before .before .before .before .before .before .before .before .before .before .before .before .before .before .before .before .before .before .before in

@@ -1,3 +1,5 @@
+-- `monthfile::judge::head_line` meets its contract.
+-- Assumes nothing.
 use mathlib.Core.Path.{sym, ap}
 use lib.ListN.{drop}
 use mathlib.Core.Path.{subst}
@@ -9,55 +11,43 @@ use borrow.Author.Needs.{needs}
 use Rattle.monthfile.proofs.judge.head_line.Statement.{statement}
 use Rattle.monthfile.proofs.judge.head_line.Tie as tie
 
--- src/judge.rt:73:35
 slice-aggregate-one-number : tie.Need-slice-aggregate-one-number
 slice-aggregate-one-number c = search needs
 
--- src/judge.rt:73:14
 one-number-requires : tie.Need-one-number-requires
 one-number-requires c κs = search needs
 
--- src/judge.rt:74:35
 slice-aggregate-one-number-2 : tie.Need-slice-aggregate-one-number-2
 slice-aggregate-one-number-2 c = search needs
 
--- src/judge.rt:74:14
 one-number-requires-2 : tie.Need-one-number-requires-2
 one-number-requires-2 c κs = search needs
 
--- src/judge.rt:75:35
 slice-aggregate-one-number-3 : tie.Need-slice-aggregate-one-number-3
 slice-aggregate-one-number-3 c = search needs
 
--- src/judge.rt:75:14
 one-number-requires-3 : tie.Need-one-number-requires-3
 one-number-requires-3 c κs = search needs
 
--- src/judge.rt:68:1
 same-length : tie.Need-same-length
 same-length c = c .before .before .one-number .kept .1 .1 .1 .0
 
--- src/judge.rt:68:1
 returns : tie.Need-returns
 returns c =
     subst (λ k. OneTaken (c .before .before .before .before .before .before .before .before .args .text .now) (line k 1 (drop (c .before .before .before .before .before .before .before .before .args .at) (c .before .before .before .before .before .before .before .before .args .text .now))) (c .before .before .before .before .before .before .before .before .args .head .now) (c .before .before .before .before .before .before .before .before .args .k) (c .before .before .one-number .result) (c .before .before .one-number .last .1 .1 .1 .0))
     (ap headAt (sym (c .before .before .before .before .before .match .keys1))) (c .before .before .one-number .ensures)
 
--- src/judge.rt:68:1
 same-length-2 : tie.Need-same-length-2
 same-length-2 c = c .before .before .one-number2 .kept .1 .1 .1 .0
 
--- src/judge.rt:68:1
 returns-2 : tie.Need-returns-2
 returns-2 c =
     subst (λ k. OneTaken (c .before .before .before .before .before .before .before .before .args .text .now) (line k 1 (drop (c .before .before .before .before .before .before .before .before .args .at) (c .before .before .before .before .before .before .before .before .args .text .now))) (c .before .before .before .before .before .before .before .before .args .head .now) (c .before .before .before .before .before .before .before .before .args .k) (c .before .before .one-number2 .result) (c .before .before .one-number2 .last .1 .1 .1 .0))
     (ap headAt (sym (c .before .before .before .before .before .match .keys2))) (c .before .before .one-number2 .ensures)
 
--- src/judge.rt:68:1
 same-length-3 : tie.Need-same-length-3
 same-length-3 c = c .before .before .one-number3 .kept .1 .1 .1 .0
 
--- src/judge.rt:68:1
 returns-3 : tie.Need-returns-3
 returns-3 c =
     subst (λ k. OneTaken (c .before .before .before .before .before .before .before .before .args .text .now) (line k 1 (drop (c .before .before .before .before .before .before .before .before .args .at) (c .before .before .before .before .before .before .before .before .args .text .now))) (c .before .before .before .before .before .before .before .before .args .head .now) (c .before .before .before .before .before .before .before .before .args .k) (c .before .before .one-number3 .result) (c .before .before .one-number3 .last .1 .1 .1 .0))

@@ -1,3 +1,5 @@
+-- `monthfile::judge::judge_end` meets its contract.
+-- Assumes nothing.
 use mathlib.Core.Path.{refl, ap, _∙_}
 use mathlib.Core.List.{[], _∷_}
 use Rattle.answer.specs.declared.Answer.{Answer}
@@ -8,57 +10,45 @@ use borrow.Author.Needs.{needs}
 use Rattle.monthfile.proofs.judge.judge_end.Statement.{statement}
 use Rattle.monthfile.proofs.judge.judge_end.Tie as tie
 
--- src/judge.rt:157:37
 slice-aggregate-one-number : tie.Need-slice-aggregate-one-number
 slice-aggregate-one-number c = search needs
 
--- src/judge.rt:157:49
 slice-aggregate-one-number-2 : tie.Need-slice-aggregate-one-number-2
 slice-aggregate-one-number-2 c = search needs
 
--- src/judge.rt:157:9
 one-number-requires : tie.Need-one-number-requires
 one-number-requires c κs = search needs
 
--- src/judge.rt:159:9
 refused-requires : tie.Need-refused-requires
 refused-requires c κs = search needs
 
--- src/judge.rt:159:9
 returns : tie.Need-returns
 returns c =
     end-missing (monthForm .last) (c .before .before .before .before .before .before .before .args .text .now) (c .before .before .before .before .before .before .before .args .at) (c .before .before .before .before .before .before .before .args .total) (c .before .before .before .before .before .before .before .pre) (0 ∷ []) (c .before .before .before .one-number .result)
     (c .before .before .before .one-number .last .1 .1 .1 .0) (c .before .before .before .one-number .ensures) refl (c .before .if1 .taken) (c .refused .result) (c .refused .ensures)
 
--- src/judge.rt:161:8
 array-read-if2 : tie.Need-array-read-if2
 array-read-if2 c = search needs
 
--- src/judge.rt:162:9
 refused-requires-2 : tie.Need-refused-requires-2
 refused-requires-2 c κs = search needs
 
--- src/judge.rt:162:9
 returns-2 : tie.Need-returns-2
 returns-2 c =
     end-other (monthForm .last) (c .before .before .before .before .before .before .before .before .args .text .now) (c .before .before .before .before .before .before .before .before .args .at) (c .before .before .before .before .before .before .before .before .args .total) (c .before .before .before .before .before .before .before .before .pre) (0 ∷ []) (c .before .before .before .before .one-number .result)
     (c .before .before .before .before .one-number .last .1 .1 .1 .0) (c .before .before .before .before .one-number .ensures) refl (c .before .before .if1 .left) (c .before .if2 .taken) (c .refused2 .result) (c .refused2 .ensures)
 
--- src/judge.rt:165:9
 refused-requires-3 : tie.Need-refused-requires-3
 refused-requires-3 c κs = search needs
 
--- src/judge.rt:165:9
 returns-3 : tie.Need-returns-3
 returns-3 c =
     end-behind (monthForm .last) (c .before .before .before .before .before .before .before .before .before .args .text .now) (c .before .before .before .before .before .before .before .before .before .args .at) (c .before .before .before .before .before .before .before .before .before .args .total) (c .before .before .before .before .before .before .before .before .before .pre) (0 ∷ []) (c .before .before .before .before .before .one-number .result)
     (c .before .before .before .before .before .one-number .last .1 .1 .1 .0) (c .before .before .before .before .before .one-number .ensures) refl (c .before .before .before .if1 .left) (c .before .before .if2 .left) (c .before .if3 .taken) (c .refused3 .result) (c .refused3 .ensures)
 
--- src/judge.rt:167:5
 refused-requires-4 : tie.Need-refused-requires-4
 refused-requires-4 c κs = search needs
 
--- src/judge.rt:152:1
 returns-4 : tie.Need-returns-4
 returns-4 c =
     end-fine (monthForm .last) (c .before .before .before .before .before .before .before .before .before .args .text .now) (c .before .before .before .before .before .before .before .before .before .args .at) (c .before .before .before .before .before .before .before .before .before .args .total) (c .before .before .before .before .before .before .before .before .before .pre) (0 ∷ []) (c .before .before .before .before .before .one-number .result)

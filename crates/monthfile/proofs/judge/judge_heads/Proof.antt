@@ -1,3 +1,5 @@
+-- `monthfile::judge::judge_heads` meets its contract.
+-- Assumes nothing.
 use mathlib.Core.Path.{_≡_, refl, _∙_}
 use Prim.Native.Nat.{_≤_, _-_}
 use native.Mathlib.Omega.{arith}
@@ -17,37 +19,29 @@ Inv-loop text head₀ i₀ k₀ head i k =
 abbrev μ-loop : tie.MeasureT-loop
 μ-loop text head₀ i₀ k₀ head i k = 3 - k
 
--- src/judge.rt:86:5
 loop-holds : tie.Need-loop-holds Inv-loop μ-loop
 loop-holds c = (omega arith, omega arith, refl, walk-start itself refl itself-more _ _)
 
--- src/judge.rt:87:13
 head-line-requires : tie.Need-head-line-requires Inv-loop μ-loop
 head-line-requires c κs = omega (arith, c .before .before .loop .inv .2, c .before .before .before .before .before .pre)
 
--- src/judge.rt:89:13
 unfit-requires : tie.Need-unfit-requires Inv-loop μ-loop
 unfit-requires c κs = search needs
 
--- src/judge.rt:89:13
 same-length : tie.Need-same-length Inv-loop μ-loop
 same-length c = c .before .before .before .before .head-line .kept .1 .1 .1 .0 ∙ c .before .before .before .before .before .before .before .loop .inv .2
 
--- src/judge.rt:89:13
 returns : tie.Need-returns Inv-loop μ-loop
 returns c =
     head-stop (c .before .before .before .before .before .before .before .before .before .before .args .text .now) _ (c .before .before .before .before .before .before .before .before .before .before .args .head .now) (c .before .before .before .before .before .before .before .loop .head) (c .before .before .before .before .before .before .before .loop .i) (c .before .before .before .before .before .before .before .loop .k) (c .before .before .before .before .before .before .before .loop .inv .3) (c .before .before .before .before .before .before .before .loop .inv .0) (c .before .before .before .before .before .before .loop-test .taken)
     (c .before .before .before .before .head-line .result) (c .before .before .before .before .head-line .last .1 .1 .1 .0) (c .before .before .before .before .head-line .ensures) (c .before .if1 .taken) (c .unfit .result) (c .unfit .ensures) _
 
--- src/judge.rt:92:9
 add-k : tie.Need-add-k Inv-loop μ-loop
 add-k c = search needs
 
--- src/judge.rt:86:5
 loop-less : tie.Need-loop-less Inv-loop μ-loop
 loop-less c = search needs
 
--- src/judge.rt:86:5
 loop-again : tie.Need-loop-again Inv-loop μ-loop
 loop-again c = (
   c .before .before .before .head-line .ensures .line-is .inside,
@@ -57,15 +51,12 @@ loop-again c = (
       (c .before .before .before .head-line .result) (c .before .before .before .head-line .last .1 .1 .1 .0) (c .before .before .before .head-line .ensures) (c .if1 .left),
 )
 
--- src/judge.rt:94:5
 fine-requires : tie.Need-fine-requires Inv-loop μ-loop
 fine-requires c κs = search needs
 
--- src/judge.rt:80:1
 same-length-2 : tie.Need-same-length-2 Inv-loop μ-loop
 same-length-2 c = c .before .before .loop .inv .2
 
--- src/judge.rt:80:1
 returns-2 : tie.Need-returns-2 Inv-loop μ-loop
 returns-2 c =
     let a = c .before .before .before .before .before .args in

@@ -1,3 +1,5 @@
+-- `monthfile::judge::judge_tables` meets its contract.
+-- Assumes nothing.
 use mathlib.Core.Path.{_≡_, refl, ap, _∙_}
 use Prim.Native.Nat.{suc, _≤_, _<_, _-_}
 use native.Mathlib.Omega.{arith}
@@ -21,35 +23,27 @@ Inv-loop text at counts₀ i₀ k₀ counts i k =
 abbrev μ-loop : tie.MeasureT-loop
 μ-loop text at counts₀ i₀ k₀ counts i k = 6 - k
 
--- src/judge.rt:133:5
 loop-holds : tie.Need-loop-holds Inv-loop μ-loop
 loop-holds c = (c .before .before .pre .0, omega arith, refl, walk-start countsOf refl counts-more _ _)
 
--- src/judge.rt:134:13
 table-of-requires : tie.Need-table-of-requires Inv-loop μ-loop
 table-of-requires c κs = search needs
 
--- src/judge.rt:135:13
 limit-requires : tie.Need-limit-requires Inv-loop μ-loop
 limit-requires c κs = search needs
 
--- src/judge.rt:136:13
 count-table-requires : tie.Need-count-table-requires Inv-loop μ-loop
 count-table-requires c κs = c .before .before .before .loop .inv .0
 
--- src/judge.rt:140:56
 number-requires : tie.Need-number-requires Inv-loop μ-loop
 number-requires c κs = search needs
 
--- src/judge.rt:140:25
 refused-requires : tie.Need-refused-requires Inv-loop μ-loop
 refused-requires c κs = search needs
 
--- src/judge.rt:139:13
 same-length : tie.Need-same-length Inv-loop μ-loop
 same-length c = c .before .before .before .before .before .before .before .loop .inv .2
 
--- src/judge.rt:139:13
 returns : tie.Need-returns Inv-loop μ-loop
 returns c =
     let counted = subst (λ t. CountedAt (c .before .before .before .before .before .before .before .before .before .before .args .text .now) (rows (key t) (width t) (suc (limit t)) (drop (c .before .before .before .before .before .before .before .loop .i) (c .before .before .before .before .before .before .before .before .before .before .args .text .now))) (c .before .before .before .count-table .result))
@@ -60,23 +54,18 @@ returns c =
     (c .before .before .before .count-table .result) counted (subst (λ m. m < c .before .before .before .count-table .result .count) most (c .before .before .if1 .taken))
     _ (c .refused .ensures ∙ ap₂ (refuse 1) called most) (c .before .before .before .before .before .before .before .loop .inv .0) _
 
--- src/judge.rt:144:9
 mul-counts : tie.Need-mul-counts Inv-loop μ-loop
 mul-counts c = omega arith
 
--- src/judge.rt:144:9
 slice-write-counts : tie.Need-slice-write-counts Inv-loop μ-loop
 slice-write-counts c = omega (arith, c .before .before .before .before .before .loop .inv .2, c .before .before .before .before .before .before .before .before .pre .1)
 
--- src/judge.rt:146:9
 add-k : tie.Need-add-k Inv-loop μ-loop
 add-k c = search needs
 
--- src/judge.rt:133:5
 loop-less : tie.Need-loop-less Inv-loop μ-loop
 loop-less c = search needs
 
--- src/judge.rt:133:5
 loop-again : tie.Need-loop-again Inv-loop μ-loop
 loop-again c =
     let counted = subst (λ t. CountedAt (c .before .before .before .before .before .before .before .before .args .text .now) (rows (key t) (width t) (suc (limit t)) (drop (c .before .before .before .before .before .loop .i) (c .before .before .before .before .before .before .before .before .args .text .now))) (c .before .count-table .result))
@@ -89,15 +78,12 @@ loop-again c =
           (c .before .count-table .result) counted (subst (λ m. c .before .count-table .result .count ≤ m) most (c .if1 .left)),
     )
 
--- src/judge.rt:148:5
 fine-requires : tie.Need-fine-requires Inv-loop μ-loop
 fine-requires c κs = search needs
 
--- src/judge.rt:127:1
 same-length-2 : tie.Need-same-length-2 Inv-loop μ-loop
 same-length-2 c = c .before .before .loop .inv .2
 
--- src/judge.rt:127:1
 returns-2 : tie.Need-returns-2 Inv-loop μ-loop
 returns-2 c =
     let a = c .before .before .before .before .before .args in

@@ -1,3 +1,5 @@
+-- `monthfile::judge::judge_text` meets its contract.
+-- Assumes nothing.
 use mathlib.Core.Path.{refl}
 use mathlib.Core.List.{[], _∷_}
 use Rattle.monthfile.proofs.Judging.{judged-heads, judged-tables, judged-end, judged-fine}
@@ -5,62 +7,49 @@ use borrow.Author.Needs.{needs}
 use Rattle.monthfile.proofs.judge.judge_text.Statement.{statement}
 use Rattle.monthfile.proofs.judge.judge_text.Tie as tie
 
--- src/judge.rt:245:35
 slice-aggregate-judge-heads : tie.Need-slice-aggregate-judge-heads
 slice-aggregate-judge-heads c = search needs
 
--- src/judge.rt:245:9
 judge-heads-requires : tie.Need-judge-heads-requires
 judge-heads-requires c κs = search needs
 
--- src/judge.rt:249:9
 stopped-requires : tie.Need-stopped-requires
 stopped-requires c κs = search needs
 
--- src/judge.rt:249:9
 returns : tie.Need-returns
 returns c =
     judged-heads (c .before .before .before .before .before .before .before .before .args .text .now) (0 ∷ 0 ∷ 0 ∷ []) (c .before .before .before .before .before .judge-heads .result) (c .before .before .before .before .before .judge-heads .last .1 .0) (c .before .before .before .before .before .judge-heads .ensures)
     (c .before .if1 .taken) (c .stopped .result .held) (c .stopped .result .body) (c .stopped .ensures)
 
--- src/judge.rt:251:43
 slice-aggregate-judge-tables : tie.Need-slice-aggregate-judge-tables
 slice-aggregate-judge-tables c = search needs
 
--- src/judge.rt:251:9
 judge-tables-requires : tie.Need-judge-tables-requires
 judge-tables-requires c κs = search needs
 
--- src/judge.rt:255:9
 stopped-requires-2 : tie.Need-stopped-requires-2
 stopped-requires-2 c κs = search needs
 
--- src/judge.rt:255:9
 returns-2 : tie.Need-returns-2
 returns-2 c =
     judged-tables (c .before .before .before .before .before .before .before .before .before .before .before .before .before .before .args .text .now) (0 ∷ 0 ∷ 0 ∷ []) (c .before .before .before .before .before .before .before .before .before .before .before .judge-heads .result) (c .before .before .before .before .before .before .before .before .before .before .before .judge-heads .last .1 .0) (c .before .before .before .before .before .before .before .before .before .before .before .judge-heads .ensures)
     (c .before .before .before .before .before .before .before .if1 .left) (0 ∷ 0 ∷ 0 ∷ 0 ∷ 0 ∷ 0 ∷ []) (c .before .before .before .before .before .judge-tables .result) (c .before .before .before .before .before .judge-tables .last .1 .1 .0) (c .before .before .before .before .before .judge-tables .ensures)
     (c .before .if2 .taken) (c .stopped2 .result .held) (c .stopped2 .result .body) (c .stopped2 .ensures)
 
--- src/judge.rt:257:46
 slice-aggregate-sum-capped : tie.Need-slice-aggregate-sum-capped
 slice-aggregate-sum-capped c = search needs
 
--- src/judge.rt:257:37
 sum-capped-requires : tie.Need-sum-capped-requires
 sum-capped-requires c κs = search needs
 
--- src/judge.rt:257:9
 judge-end-requires : tie.Need-judge-end-requires
 judge-end-requires c κs =
     c .before .before .before .before .before .before .judge-tables .ensures .inside
 
--- src/judge.rt:259:9
 stopped-requires-3 : tie.Need-stopped-requires-3
 stopped-requires-3 c κs =
     search needs
 
--- src/judge.rt:259:9
 returns-3 : tie.Need-returns-3
 returns-3 c =
     judged-end (c .before .before .before .before .before .before .before .before .before .before .before .before .before .before .before .before .before .before .before .args .text .now) (0 ∷ 0 ∷ 0 ∷ []) (c .before .before .before .before .before .before .before .before .before .before .before .before .before .before .before .before .judge-heads .result) (c .before .before .before .before .before .before .before .before .before .before .before .before .before .before .before .before .judge-heads .last .1 .0) (c .before .before .before .before .before .before .before .before .before .before .before .before .before .before .before .before .judge-heads .ensures)
@@ -68,20 +57,16 @@ returns-3 c =
     (c .before .before .before .before .before .before .if2 .left) refl (c .before .before .before .before .sum-capped .result) (c .before .before .before .before .sum-capped .ensures) (c .before .before .before .judge-end .result) (c .before .before .before .judge-end .ensures)
     (c .before .if3 .taken) (c .stopped3 .result .held) (c .stopped3 .result .body) (c .stopped3 .ensures)
 
--- src/judge.rt:262:21
 slice-aggregate-found : tie.Need-slice-aggregate-found
 slice-aggregate-found c = search needs
 
--- src/judge.rt:262:28
 slice-aggregate-found-2 : tie.Need-slice-aggregate-found-2
 slice-aggregate-found-2 c = search needs
 
--- src/judge.rt:262:15
 found-requires : tie.Need-found-requires
 found-requires c κs =
     (c .before .before .before .before .before .before .before .before .before .before .before .before .before .before .before .before .before .judge-heads .kept .1 .0, c .before .before .before .before .before .before .before .before .before .before .before .judge-tables .kept .1 .1 .0)
 
--- src/judge.rt:240:1
 returns-4 : tie.Need-returns-4
 returns-4 c =
     judged-fine (c .before .before .before .before .before .before .before .before .before .before .before .before .before .before .before .before .before .before .before .before .before .args .text .now) (0 ∷ 0 ∷ 0 ∷ []) (c .before .before .before .before .before .before .before .before .before .before .before .before .before .before .before .before .before .before .judge-heads .result) (c .before .before .before .before .before .before .before .before .before .before .before .before .before .before .before .before .before .before .judge-heads .last .1 .0) (c .before .before .before .before .before .before .before .before .before .before .before .before .before .before .before .before .before .before .judge-heads .ensures)

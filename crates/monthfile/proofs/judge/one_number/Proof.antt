@@ -1,3 +1,5 @@
+-- `monthfile::judge::one_number` meets its contract.
+-- Assumes nothing.
 use mathlib.Core.Path.{sym, ap, _∙_}
 use native.Mathlib.Omega.{arith}
 use mathlib.Core.Path.{subst}
@@ -8,11 +10,9 @@ use borrow.Author.Needs.{needs}
 use Rattle.monthfile.proofs.judge.one_number.Statement.{statement}
 use Rattle.monthfile.proofs.judge.one_number.Tie as tie
 
--- src/judge.rt:59:9
 next-line-requires : tie.Need-next-line-requires
 next-line-requires c κs = search needs
 
--- src/judge.rt:61:9
 returns : tie.Need-returns
 returns c =
     let a = c .before .before .before .before .before .args in
@@ -23,16 +23,13 @@ returns c =
           ∙ ap (λ o. stored (a .words .now) (a .place) (fieldsOf o)) (sym (c .before .next-line .ensures .unfit (c .if1 .taken)));
     }
 
--- src/judge.rt:63:5
 take-line-requires : tie.Need-take-line-requires
 take-line-requires c κs =
     ((λ e. never e (c .before .before .next-line .ensures .fits (c .before .if1 .left) .1)), omega arith)
 
--- src/judge.rt:55:1
 same-length : tie.Need-same-length
 same-length c = c .before .before .take-line .kept .1 .1 .1 .1 .0
 
--- src/judge.rt:55:1
 returns-2 : tie.Need-returns-2
 returns-2 c = record { line-is = c .before .before .before .before .before .next-line .ensures; written = c .before .before .take-line .ensures .written }
 

@@ -1,3 +1,5 @@
+-- `monthfile::put::heads_size` meets its contract.
+-- Assumes nothing.
 use native.Mathlib.Omega.{arith}
 use mathlib.Core.Path.{subst}
 use mathlib.Core.List.{[], _∷_}
@@ -10,43 +12,33 @@ use borrow.Author.Needs.{needs}
 use Rattle.monthfile.proofs.put.heads_size.Statement.{statement}
 use Rattle.monthfile.proofs.put.heads_size.Tie as tie
 
--- src/put.rt:52:39
 slice-aggregate-line-size : tie.Need-slice-aggregate-line-size
 slice-aggregate-line-size c = search needs
 
--- src/put.rt:52:53
 slice-aggregate-line-size-2 : tie.Need-slice-aggregate-line-size-2
 slice-aggregate-line-size-2 c = search needs
 
--- src/put.rt:52:9
 line-size-requires : tie.Need-line-size-requires
 line-size-requires c κs = search needs
 
--- src/put.rt:53:40
 slice-aggregate-line-size-3 : tie.Need-slice-aggregate-line-size-3
 slice-aggregate-line-size-3 c = search needs
 
--- src/put.rt:53:53
 slice-aggregate-line-size-4 : tie.Need-slice-aggregate-line-size-4
 slice-aggregate-line-size-4 c = search needs
 
--- src/put.rt:53:9
 line-size-requires-2 : tie.Need-line-size-requires-2
 line-size-requires-2 c κs = (omega arith, sized-most _ _ _ (c .before .before .line-size .result) (c .before .before .line-size .ensures))
 
--- src/put.rt:54:27
 slice-aggregate-line-size-5 : tie.Need-slice-aggregate-line-size-5
 slice-aggregate-line-size-5 c = search needs
 
--- src/put.rt:54:43
 slice-aggregate-line-size-6 : tie.Need-slice-aggregate-line-size-6
 slice-aggregate-line-size-6 c = search needs
 
--- src/put.rt:54:5
 line-size-requires-3 : tie.Need-line-size-requires-3
 line-size-requires-3 c κs = (omega arith, sized-most _ _ _ (c .before .before .line-size2 .result) (c .before .before .line-size2 .ensures))
 
--- src/put.rt:48:1
 returns : tie.Need-returns
 returns c =
     subst (λ l. Sized 0 l (c .before .before .before .before .before .before .before .before .before .args .cap) (c .line-size3 .result)) (heads-pieces (c .before .before .before .before .before .before .before .before .before .args .month) (c .before .before .before .before .before .before .before .before .before .args .days) (c .before .before .before .before .before .before .before .before .before .args .nonzone))

@@ -1,3 +1,5 @@
+-- `monthfile::put::put_heads` meets its contract.
+-- Assumes nothing.
 use mathlib.Core.Path.{sym, _∙_}
 use Prim.Native.Nat.{_≤_, _+_}
 use native.Mathlib.Omega.{arith}
@@ -24,47 +26,36 @@ room2 : (c : tie.After-put-line2) → c .put-line2 .result + length (joined ((li
 room2 c =
     fits-on (c .before .before .before .before .before .before .put-line .last .1 .1 .1 .1 .0) (c .before .before .before .before .before .before .put-line .result) (lineText (bytes "days") (c .before .before .before .before .before .before .before .before .before .before .before .args .days ∷ [])) (joined ((lineText (bytes "nonzone") (c .before .before .before .before .before .before .before .before .before .before .before .args .nonzone ∷ [])) ∷ [])) (c .put-line2 .result) (c .put-line2 .last .1 .1 .1 .1 .0) (c .put-line2 .ensures) (c .put-line2 .kept .1 .1 .1 .1 .0) (room1 (c .before .before .before .before .before .before))
 
--- src/put.rt:62:38
 slice-aggregate-put-line : tie.Need-slice-aggregate-put-line
 slice-aggregate-put-line c = search needs
 
--- src/put.rt:62:52
 slice-aggregate-put-line-2 : tie.Need-slice-aggregate-put-line-2
 slice-aggregate-put-line-2 c = search needs
 
--- src/put.rt:62:9
 put-line-requires : tie.Need-put-line-requires
 put-line-requires c κs = (omega arith, fits-first (c .before .before .before .before .args .out .now) 0 (lineText (bytes "month") (c .before .before .before .before .args .month ∷ [])) (joined ((lineText (bytes "days") (c .before .before .before .before .args .days ∷ [])) ∷ (lineText (bytes "nonzone") (c .before .before .before .before .args .nonzone ∷ [])) ∷ [])) (whole (c .before .before .before .before)))
 
--- src/put.rt:63:39
 slice-aggregate-put-line-3 : tie.Need-slice-aggregate-put-line-3
 slice-aggregate-put-line-3 c = search needs
 
--- src/put.rt:63:52
 slice-aggregate-put-line-4 : tie.Need-slice-aggregate-put-line-4
 slice-aggregate-put-line-4 c = search needs
 
--- src/put.rt:63:9
 put-line-requires-2 : tie.Need-put-line-requires-2
 put-line-requires-2 c κs = (omega arith, fits-first (c .before .before .before .before .before .put-line .last .1 .1 .1 .1 .0) (c .before .before .before .before .before .put-line .result) (lineText (bytes "days") (c .before .before .before .before .before .before .before .before .before .before .args .days ∷ [])) (joined ((lineText (bytes "nonzone") (c .before .before .before .before .before .before .before .before .before .before .args .nonzone ∷ [])) ∷ [])) (room1 (c .before .before .before .before .before)))
 
--- src/put.rt:64:26
 slice-aggregate-put-line-5 : tie.Need-slice-aggregate-put-line-5
 slice-aggregate-put-line-5 c = search needs
 
--- src/put.rt:64:42
 slice-aggregate-put-line-6 : tie.Need-slice-aggregate-put-line-6
 slice-aggregate-put-line-6 c = search needs
 
--- src/put.rt:64:5
 put-line-requires-3 : tie.Need-put-line-requires-3
 put-line-requires-3 c κs = (omega arith, fits-first (c .before .before .before .before .before .put-line2 .last .1 .1 .1 .1 .0) (c .before .before .before .before .before .put-line2 .result) (lineText (bytes "nonzone") (c .before .before .before .before .before .before .before .before .before .before .before .before .before .before .before .before .args .nonzone ∷ [])) (joined ([])) (room2 (c .before .before .before .before .before)))
 
--- src/put.rt:57:1
 same-length : tie.Need-same-length
 same-length c = c .before .before .put-line3 .kept .1 .1 .1 .1 .0 ∙ c .before .before .before .before .before .before .before .before .put-line2 .kept .1 .1 .1 .1 .0 ∙ c .before .before .before .before .before .before .before .before .before .before .before .before .before .before .put-line .kept .1 .1 .1 .1 .0
 
--- src/put.rt:57:1
 returns : tie.Need-returns
 returns c =
     let start = c .before .before .before .before .before .before .before .before .before .before .before .before .before .before .before .before .before .before .before in

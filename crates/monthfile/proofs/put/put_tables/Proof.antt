@@ -1,3 +1,5 @@
+-- `monthfile::put::put_tables` meets its contract.
+-- Assumes nothing.
 use mathlib.Core.Path.{sym, _∙_}
 use Prim.Native.Nat.{_≤_, _+_}
 use native.Mathlib.Omega.{arith}
@@ -44,59 +46,45 @@ room5 c =
     fits-on (c .before .before .before .before .before .put-table4 .last .1 .1 .1 .0) (c .before .before .before .before .before .put-table4 .result) (tablePiece (lent (c .before .before .before .before .before .before .before .before .before .before .before .before .before .before .before .before .before .before .before .before .before .before .before .before .before .before .before .before .before .before)) Loads) (joined (pieces5 (lent (c .before .before .before .before .before .before .before .before .before .before .before .before .before .before .before .before .before .before .before .before .before .before .before .before .before .before .before .before .before .before)))) (c .put-table5 .result) (c .put-table5 .last .1 .1 .1 .0)
     (c .put-table5 .ensures) (c .put-table5 .kept .1 .1 .1 .0) (room4 (c .before .before .before .before .before))
 
--- src/put.rt:101:27
 slice-aggregate-put-table : tie.Need-slice-aggregate-put-table
 slice-aggregate-put-table c = search needs
 
--- src/put.rt:101:9
 put-table-requires : tie.Need-put-table-requires
 put-table-requires c κs = (omega arith, fits-first (c .before .before .before .before .before .before .before .before .before .args .out .now) (c .before .before .before .before .before .before .before .before .before .args .at) (tablePiece (lent (c .before .before .before .before .before .before .before .before .before)) Zones) (joined (pieces1 (lent (c .before .before .before .before .before .before .before .before .before)))) (whole (c .before .before .before .before .before .before .before .before .before)))
 
--- src/put.rt:102:28
 slice-aggregate-put-table-2 : tie.Need-slice-aggregate-put-table-2
 slice-aggregate-put-table-2 c = search needs
 
--- src/put.rt:102:9
 put-table-requires-2 : tie.Need-put-table-requires-2
 put-table-requires-2 c κs = (omega arith, fits-first (c .before .before .before .before .put-table .last .1 .1 .1 .0) (c .before .before .before .before .put-table .result) (tablePiece (lent (c .before .before .before .before .before .before .before .before .before .before .before .before .before .before)) Owners) (joined (pieces2 (lent (c .before .before .before .before .before .before .before .before .before .before .before .before .before .before)))) (room1 (c .before .before .before .before)))
 
--- src/put.rt:103:27
 slice-aggregate-put-table-3 : tie.Need-slice-aggregate-put-table-3
 slice-aggregate-put-table-3 c = search needs
 
--- src/put.rt:103:9
 put-table-requires-3 : tie.Need-put-table-requires-3
 put-table-requires-3 c κs = (omega arith, fits-first (c .before .before .before .before .put-table2 .last .1 .1 .1 .0) (c .before .before .before .before .put-table2 .result) (tablePiece (lent (c .before .before .before .before .before .before .before .before .before .before .before .before .before .before .before .before .before .before .before)) Units) (joined (pieces3 (lent (c .before .before .before .before .before .before .before .before .before .before .before .before .before .before .before .before .before .before .before)))) (room2 (c .before .before .before .before)))
 
--- src/put.rt:104:28
 slice-aggregate-put-table-4 : tie.Need-slice-aggregate-put-table-4
 slice-aggregate-put-table-4 c = search needs
 
--- src/put.rt:104:9
 put-table-requires-4 : tie.Need-put-table-requires-4
 put-table-requires-4 c κs = (omega arith, fits-first (c .before .before .before .before .put-table3 .last .1 .1 .1 .0) (c .before .before .before .before .put-table3 .result) (tablePiece (lent (c .before .before .before .before .before .before .before .before .before .before .before .before .before .before .before .before .before .before .before .before .before .before .before .before)) Accounts) (joined (pieces4 (lent (c .before .before .before .before .before .before .before .before .before .before .before .before .before .before .before .before .before .before .before .before .before .before .before .before)))) (room3 (c .before .before .before .before)))
 
--- src/put.rt:105:27
 slice-aggregate-put-table-5 : tie.Need-slice-aggregate-put-table-5
 slice-aggregate-put-table-5 c = search needs
 
--- src/put.rt:105:9
 put-table-requires-5 : tie.Need-put-table-requires-5
 put-table-requires-5 c κs = (omega arith, fits-first (c .before .before .before .before .put-table4 .last .1 .1 .1 .0) (c .before .before .before .before .put-table4 .result) (tablePiece (lent (c .before .before .before .before .before .before .before .before .before .before .before .before .before .before .before .before .before .before .before .before .before .before .before .before .before .before .before .before .before)) Loads) (joined (pieces5 (lent (c .before .before .before .before .before .before .before .before .before .before .before .before .before .before .before .before .before .before .before .before .before .before .before .before .before .before .before .before .before)))) (room4 (c .before .before .before .before)))
 
--- src/put.rt:106:15
 slice-aggregate-put-table-6 : tie.Need-slice-aggregate-put-table-6
 slice-aggregate-put-table-6 c = search needs
 
--- src/put.rt:106:5
 put-table-requires-6 : tie.Need-put-table-requires-6
 put-table-requires-6 c κs = (omega arith, fits-first (c .before .before .before .before .put-table5 .last .1 .1 .1 .0) (c .before .before .before .before .put-table5 .result) (tablePiece (lent (c .before .before .before .before .before .before .before .before .before .before .before .before .before .before .before .before .before .before .before .before .before .before .before .before .before .before .before .before .before .before .before .before .before .before)) Reservations) (joined (pieces6 (lent (c .before .before .before .before .before .before .before .before .before .before .before .before .before .before .before .before .before .before .before .before .before .before .before .before .before .before .before .before .before .before .before .before .before .before)))) (room5 (c .before .before .before .before)))
 
--- src/put.rt:88:1
 same-length : tie.Need-same-length
 same-length c = c .before .before .put-table6 .kept .1 .1 .1 .0 ∙ c .before .before .before .before .before .before .before .put-table5 .kept .1 .1 .1 .0 ∙ c .before .before .before .before .before .before .before .before .before .before .before .before .put-table4 .kept .1 .1 .1 .0 ∙ c .before .before .before .before .before .before .before .before .before .before .before .before .before .before .before .before .before .put-table3 .kept .1 .1 .1 .0 ∙ c .before .before .before .before .before .before .before .before .before .before .before .before .before .before .before .before .before .before .before .before .before .before .put-table2 .kept .1 .1 .1 .0 ∙ c .before .before .before .before .before .before .before .before .before .before .before .before .before .before .before .before .before .before .before .before .before .before .before .before .before .before .before .put-table .kept .1 .1 .1 .0
 
--- src/put.rt:88:1
 returns : tie.Need-returns
 returns c =
     let start = c .before .before .before .before .before .before .before .before .before .before .before .before .before .before .before .before .before .before .before .before .before .before .before .before .before .before .before .before .before .before .before .before .before .before .before .before .before in

@@ -1,3 +1,5 @@
+-- `monthfile::put::put_text` meets its contract.
+-- Assumes nothing.
 use mathlib.Core.Path.{sym, _∙_}
 use Prim.Native.Nat.{_≤_, _+_}
 use mathlib.Core.Path.{subst}
@@ -30,30 +32,24 @@ room2 c =
     fits-on (c .before .before .before .before .put-heads .last .1 .1 .1 .0) (c .before .before .before .before .put-heads .result) (tablesText (monthForm .kinds) (allRows (tablesOf (c .before .before .before .before .before .before .before .before .before .before .before .before .before .args .zones .now) (c .before .before .before .before .before .before .before .before .before .before .before .before .before .args .owners .now) (c .before .before .before .before .before .before .before .before .before .before .before .before .before .args .units .now) (c .before .before .before .before .before .before .before .before .before .before .before .before .before .args .accounts .now) (c .before .before .before .before .before .before .before .before .before .before .before .before .before .args .loads .now) (c .before .before .before .before .before .before .before .before .before .before .before .before .before .args .reservations .now)))) (lineText (monthForm .last) (rowsIn (allRows (tablesOf (c .before .before .before .before .before .before .before .before .before .before .before .before .before .args .zones .now) (c .before .before .before .before .before .before .before .before .before .before .before .before .before .args .owners .now) (c .before .before .before .before .before .before .before .before .before .before .before .before .before .args .units .now) (c .before .before .before .before .before .before .before .before .before .before .before .before .before .args .accounts .now) (c .before .before .before .before .before .before .before .before .before .before .before .before .before .args .loads .now) (c .before .before .before .before .before .before .before .before .before .before .before .before .before .args .reservations .now))) ∷ [])) (c .put-tables .result) (c .put-tables .last .1 .1 .1 .1 .1 .1 .0)
     (c .put-tables .ensures) (c .put-tables .kept .1 .1 .1 .1 .1 .1 .0) (room1 (c .before .before .before .before))
 
--- src/put.rt:161:9
 put-heads-requires : tie.Need-put-heads-requires
 put-heads-requires c κs = fits-first (c .before .before .before .before .before .before .before .before .args .out .now) 0 (headsText (monthForm .heads) (c .before .before .before .before .before .before .before .before .args .month ∷ c .before .before .before .before .before .before .before .before .args .days ∷ c .before .before .before .before .before .before .before .before .args .nonzone ∷ [])) ((tablesText (monthForm .kinds) (allRows (tablesOf (c .before .before .before .before .before .before .before .before .args .zones .now) (c .before .before .before .before .before .before .before .before .args .owners .now) (c .before .before .before .before .before .before .before .before .args .units .now) (c .before .before .before .before .before .before .before .before .args .accounts .now) (c .before .before .before .before .before .before .before .before .args .loads .now) (c .before .before .before .before .before .before .before .before .args .reservations .now)))) ++ (lineText (monthForm .last) (rowsIn (allRows (tablesOf (c .before .before .before .before .before .before .before .before .args .zones .now) (c .before .before .before .before .before .before .before .before .args .owners .now) (c .before .before .before .before .before .before .before .before .args .units .now) (c .before .before .before .before .before .before .before .before .args .accounts .now) (c .before .before .before .before .before .before .before .before .args .loads .now) (c .before .before .before .before .before .before .before .before .args .reservations .now))) ∷ []))) (whole (c .before .before .before .before .before .before .before .before))
 
--- src/put.rt:162:9
 put-tables-requires : tie.Need-put-tables-requires
 put-tables-requires c κs =
     fits-first (c .before .before .before .put-heads .last .1 .1 .1 .0) (c .before .before .before .put-heads .result) (tablesText (monthForm .kinds) (allRows (tablesOf (c .before .before .before .before .before .before .before .before .before .before .before .before .args .zones .now) (c .before .before .before .before .before .before .before .before .before .before .before .before .args .owners .now) (c .before .before .before .before .before .before .before .before .before .before .before .before .args .units .now) (c .before .before .before .before .before .before .before .before .before .before .before .before .args .accounts .now) (c .before .before .before .before .before .before .before .before .before .before .before .before .args .loads .now) (c .before .before .before .before .before .before .before .before .before .before .before .before .args .reservations .now)))) (lineText (monthForm .last) (rowsIn (allRows (tablesOf (c .before .before .before .before .before .before .before .before .before .before .before .before .args .zones .now) (c .before .before .before .before .before .before .before .before .before .before .before .before .args .owners .now) (c .before .before .before .before .before .before .before .before .before .before .before .before .args .units .now) (c .before .before .before .before .before .before .before .before .before .before .before .before .args .accounts .now) (c .before .before .before .before .before .before .before .before .before .before .before .before .args .loads .now) (c .before .before .before .before .before .before .before .before .before .before .before .before .args .reservations .now))) ∷ [])) (room1 (c .before .before .before))
 
--- src/put.rt:163:13
 rows-in-all-requires : tie.Need-rows-in-all-requires
 rows-in-all-requires c κs = search needs
 
--- src/put.rt:163:5
 put-end-requires : tie.Need-put-end-requires
 put-end-requires c κs =
     subst (λ n. c .before .before .before .before .put-tables .result + length (lineText (monthForm .last) (n ∷ [])) ≤ length (c .before .before .before .before .put-tables .last .1 .1 .1 .1 .1 .1 .0))
     (sym (c .before .rows-in-all .ensures)) (room2 (c .before .before .before .before))
 
--- src/put.rt:146:1
 same-length : tie.Need-same-length
 same-length c = c .before .before .put-end .kept .1 .0 ∙ c .before .before .before .before .before .before .before .put-tables .kept .1 .1 .1 .1 .1 .1 .0 ∙ c .before .before .before .before .before .before .before .before .before .before .before .put-heads .kept .1 .1 .1 .0
 
--- src/put.rt:146:1
 returns : tie.Need-returns
 returns c =
     let start = c .before .before .before .before .before .before .before .before .before .before .before .before .before .before .before .before .before .before .before .before in

@@ -1,3 +1,5 @@
+-- `monthfile::put::rows_in_all` meets its contract.
+-- Assumes nothing.
 use native.Mathlib.Omega.{arith}
 use Rattle.tables.specs.Shape.{tablesOf}
 use Rattle.monthfile.proofs.Pieces.{all-rows}
@@ -5,27 +7,21 @@ use borrow.Author.Needs.{needs}
 use Rattle.monthfile.proofs.put.rows_in_all.Statement.{statement}
 use Rattle.monthfile.proofs.put.rows_in_all.Tie as tie
 
--- src/put.rt:43:16
 add-some : tie.Need-add-some
 add-some c = search needs
 
--- src/put.rt:43:16
 add-some-2 : tie.Need-add-some-2
 add-some-2 c = search needs
 
--- src/put.rt:44:18
 add-others : tie.Need-add-others
 add-others c = search needs
 
--- src/put.rt:44:18
 add-others-2 : tie.Need-add-others-2
 add-others-2 c = search needs
 
--- src/put.rt:45:6
 add-result : tie.Need-add-result
 add-result c = search needs
 
--- src/put.rt:33:1
 returns : tie.Need-returns
 returns c = omega (arith, all-rows (tablesOf (c .args .zones .now) (c .args .owners .now) (c .args .units .now) (c .args .accounts .now) (c .args .loads .now) (c .args .reservations .now)))
 

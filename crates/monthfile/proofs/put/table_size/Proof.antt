@@ -1,18 +1,17 @@
+-- `monthfile::put::table_size` meets its contract.
+-- Assumes nothing.
 use native.Mathlib.Nat.{div-mul-le-self}
 use lib.ListN.{length}
 use borrow.Author.Needs.{needs}
 use Rattle.monthfile.proofs.put.table_size.Statement.{statement}
 use Rattle.monthfile.proofs.put.table_size.Tie as tie
 
--- src/put.rt:21:32
 div-rows-size : tie.Need-div-rows-size
 div-rows-size c = search needs
 
--- src/put.rt:21:5
 rows-size-requires : tie.Need-rows-size-requires
 rows-size-requires c κs = (div-mul-le-self (length (c .before .before .args .words .now)) (c .before .before .args .width), c .before .before .pre .1)
 
--- src/put.rt:17:1
 returns : tie.Need-returns
 returns c = search needs
 

@@ -1,3 +1,5 @@
+-- `monthfile::put::tables_size` meets its contract.
+-- Assumes nothing.
 use native.Mathlib.Omega.{arith}
 use mathlib.Core.Path.{subst}
 use Rattle.tables.specs.declared.Table.the-variants.{Zones, Owners, Units, Accounts, Loads, Reservations}
@@ -9,55 +11,42 @@ use borrow.Author.Needs.{needs}
 use Rattle.monthfile.proofs.put.tables_size.Statement.{statement}
 use Rattle.monthfile.proofs.put.tables_size.Tie as tie
 
--- src/put.rt:80:28
 slice-aggregate-table-size : tie.Need-slice-aggregate-table-size
 slice-aggregate-table-size c = search needs
 
--- src/put.rt:80:9
 table-size-requires : tie.Need-table-size-requires
 table-size-requires c κs = (omega arith, c .before .before .before .before .before .before .before .pre)
 
--- src/put.rt:81:29
 slice-aggregate-table-size-2 : tie.Need-slice-aggregate-table-size-2
 slice-aggregate-table-size-2 c = search needs
 
--- src/put.rt:81:9
 table-size-requires-2 : tie.Need-table-size-requires-2
 table-size-requires-2 c κs = (omega arith, sized-most _ _ _ (c .before .table-size .result) (c .before .table-size .ensures))
 
--- src/put.rt:82:28
 slice-aggregate-table-size-3 : tie.Need-slice-aggregate-table-size-3
 slice-aggregate-table-size-3 c = search needs
 
--- src/put.rt:82:9
 table-size-requires-3 : tie.Need-table-size-requires-3
 table-size-requires-3 c κs = (omega arith, sized-most _ _ _ (c .before .table-size2 .result) (c .before .table-size2 .ensures))
 
--- src/put.rt:83:29
 slice-aggregate-table-size-4 : tie.Need-slice-aggregate-table-size-4
 slice-aggregate-table-size-4 c = search needs
 
--- src/put.rt:83:9
 table-size-requires-4 : tie.Need-table-size-requires-4
 table-size-requires-4 c κs = (omega arith, sized-most _ _ _ (c .before .table-size3 .result) (c .before .table-size3 .ensures))
 
--- src/put.rt:84:28
 slice-aggregate-table-size-5 : tie.Need-slice-aggregate-table-size-5
 slice-aggregate-table-size-5 c = search needs
 
--- src/put.rt:84:9
 table-size-requires-5 : tie.Need-table-size-requires-5
 table-size-requires-5 c κs = (omega arith, sized-most _ _ _ (c .before .table-size4 .result) (c .before .table-size4 .ensures))
 
--- src/put.rt:85:16
 slice-aggregate-table-size-6 : tie.Need-slice-aggregate-table-size-6
 slice-aggregate-table-size-6 c = search needs
 
--- src/put.rt:85:5
 table-size-requires-6 : tie.Need-table-size-requires-6
 table-size-requires-6 c κs = (omega arith, sized-most _ _ _ (c .before .table-size5 .result) (c .before .table-size5 .ensures))
 
--- src/put.rt:67:1
 returns : tie.Need-returns
 returns c =
     let start = c .before .before .before .before .before .before .before .before .before .before .before .before .before .before .before .before .before .before in

@@ -1,3 +1,5 @@
+-- `monthfile::put::text_size` meets its contract.
+-- Assumes nothing.
 use mathlib.Core.Path.{subst}
 use mathlib.Core.List.{[], _∷_}
 use Rattle.tables.specs.Shape.{tablesOf}
@@ -13,23 +15,18 @@ use borrow.Author.Needs.{needs}
 use Rattle.monthfile.proofs.put.text_size.Statement.{statement}
 use Rattle.monthfile.proofs.put.text_size.Tie as tie
 
--- src/put.rt:140:9
 heads-size-requires : tie.Need-heads-size-requires
 heads-size-requires c κs = search needs
 
--- src/put.rt:141:9
 tables-size-requires : tie.Need-tables-size-requires
 tables-size-requires c κs = sized-most _ _ _ (c .heads-size .result) (c .heads-size .ensures)
 
--- src/put.rt:142:14
 rows-in-all-requires : tie.Need-rows-in-all-requires
 rows-in-all-requires c κs = search needs
 
--- src/put.rt:142:5
 end-size-requires : tie.Need-end-size-requires
 end-size-requires c κs = sized-most _ _ _ (c .before .tables-size .result) (c .before .tables-size .ensures)
 
--- src/put.rt:126:1
 returns : tie.Need-returns
 returns c =
     let start = c .before .before .before .before .before .before .before .before .before .before in

@@ -1,3 +1,5 @@
+-- `monthfile::room::judge_room` meets its contract.
+-- Assumes nothing.
 use mathlib.Core.Path.{_∙_}
 use mathlib.Core.Path.{ap₂}
 use Rattle.answer.specs.Turns.{_then_}
@@ -5,51 +7,39 @@ use borrow.Author.Needs.{needs}
 use Rattle.monthfile.proofs.room.judge_room.Statement.{statement}
 use Rattle.monthfile.proofs.room.judge_room.Tie as tie
 
--- src/room.rt:39:33
 room-of-requires : tie.Need-room-of-requires
 room-of-requires c κs = search needs
 
--- src/room.rt:39:63
 room-of-requires-2 : tie.Need-room-of-requires-2
 room-of-requires-2 c κs = search needs
 
--- src/room.rt:39:9
 in-turn-requires : tie.Need-in-turn-requires
 in-turn-requires c κs = search needs
 
--- src/room.rt:40:41
 room-of-requires-3 : tie.Need-room-of-requires-3
 room-of-requires-3 c κs = search needs
 
--- src/room.rt:40:9
 in-turn-requires-2 : tie.Need-in-turn-requires-2
 in-turn-requires-2 c κs = search needs
 
--- src/room.rt:41:41
 room-of-requires-4 : tie.Need-room-of-requires-4
 room-of-requires-4 c κs = search needs
 
--- src/room.rt:41:9
 in-turn-requires-3 : tie.Need-in-turn-requires-3
 in-turn-requires-3 c κs = search needs
 
--- src/room.rt:42:41
 room-of-requires-5 : tie.Need-room-of-requires-5
 room-of-requires-5 c κs = search needs
 
--- src/room.rt:42:9
 in-turn-requires-4 : tie.Need-in-turn-requires-4
 in-turn-requires-4 c κs = search needs
 
--- src/room.rt:43:29
 room-of-requires-6 : tie.Need-room-of-requires-6
 room-of-requires-6 c κs = search needs
 
--- src/room.rt:43:5
 in-turn-requires-5 : tie.Need-in-turn-requires-5
 in-turn-requires-5 c κs = search needs
 
--- src/room.rt:36:1
 returns : tie.Need-returns
 returns c =
     c .in-turn5 .ensures

@@ -1,3 +1,5 @@
+-- `monthfile::room::room_of` meets its contract.
+-- Assumes nothing.
 use mathlib.Core.Path.{ap, _∙_}
 use Prim.Native.Nat.{_≤_, _<_, _*_}
 use mathlib.Core.Path.{subst}
@@ -8,34 +10,27 @@ use borrow.Author.Needs.{needs}
 use Rattle.monthfile.proofs.room.room_of.Statement.{statement}
 use Rattle.monthfile.proofs.room.room_of.Tie as tie
 
--- src/room.rt:29:15
 full-size-requires : tie.Need-full-size-requires
 full-size-requires c κs = search needs
 
--- src/room.rt:30:46
 number-requires : tie.Need-number-requires
 number-requires c κs = search needs
 
--- src/room.rt:30:9
 refused-requires : tie.Need-refused-requires
 refused-requires c κs = search needs
 
--- src/room.rt:30:9
 returns : tie.Need-returns
 returns c =
     let t = c .before .before .before .before .args .table in
     c .refused .ensures ∙ ap (λ n. refuse 2 n 0) (c .before .number .ensures)
     ∙ room-short (number t) (limit t * width t) (c .before .before .before .before .args .lent) (subst (λ n. c .before .before .before .before .args .lent < n) (c .before .before .before .full-size .ensures) (c .before .before .if1 .taken))
 
--- src/room.rt:32:39
 number-requires-2 : tie.Need-number-requires-2
 number-requires-2 c κs = search needs
 
--- src/room.rt:32:5
 refused-requires-2 : tie.Need-refused-requires-2
 refused-requires-2 c κs = search needs
 
--- src/room.rt:26:1
 returns-2 : tie.Need-returns-2
 returns-2 c =
     let t = c .before .before .before .before .args .table in

@@ -1,3 +1,5 @@
+-- `monthfile::row::count_rows` meets its contract.
+-- Assumes nothing.
 use mathlib.Core.Path.{_≡_}
 use Prim.Native.Nat.{_≤_, _+_}
 use native.Mathlib.Omega.{arith}
@@ -15,33 +17,26 @@ Inv-loop text at key width most i₀ count₀ left₀ i count left =
 abbrev μ-loop : tie.MeasureT-loop
 μ-loop text at key width most i₀ count₀ left₀ i count left = left
 
--- src/row.rt:25:5
 loop-holds : tie.Need-loop-holds Inv-loop μ-loop
 loop-holds c = (c .before .before .pre, omega arith, rows-start _)
 
--- src/row.rt:26:9
 sub-left : tie.Need-sub-left Inv-loop μ-loop
 sub-left c = search needs
 
--- src/row.rt:27:13
 next-line-requires : tie.Need-next-line-requires Inv-loop μ-loop
 next-line-requires c κs = search needs
 
--- src/row.rt:29:13
 returns : tie.Need-returns Inv-loop μ-loop
 returns c =
     rows-missing (c .before .before .before .before .before .before .args .key .now) (c .before .before .before .before .before .before .args .width) (c .before .before .before .before .before .before .args .text .now) _ (c .before .before .before .loop .i) (c .before .before .before .loop .count) (c .before .before .before .loop .left) (c .before .before .before .loop .inv .2)
     (c .before .before .loop-test .taken) (c .before .next-line .result) (c .before .next-line .ensures) (c .before .before .before .loop .inv .0) (c .if1 .taken)
 
--- src/row.rt:32:9
 add-count : tie.Need-add-count Inv-loop μ-loop
 add-count c = omega (arith, c .before .before .before .loop .inv .1, c .before .before .before .before .before .before .fits .most)
 
--- src/row.rt:25:5
 loop-less : tie.Need-loop-less Inv-loop μ-loop
 loop-less c = search needs
 
--- src/row.rt:25:5
 loop-again : tie.Need-loop-again Inv-loop μ-loop
 loop-again c = (
   c .before .next-line .ensures .inside,
@@ -50,7 +45,6 @@ loop-again c = (
       (c .before .before .loop-test .taken) (c .before .next-line .result) (c .before .next-line .ensures) (c .if1 .left),
 )
 
--- src/row.rt:18:1
 returns-2 : tie.Need-returns-2 Inv-loop μ-loop
 returns-2 c =
     let a = c .before .before .before .before .args in

@@ -1,3 +1,5 @@
+-- `monthfile::row::put_rows` meets its contract.
+-- Assumes nothing.
 use mathlib.Core.Path.{_≡_, refl, _∙_}
 use Prim.Native.Nat.{ℕ, _≤_, _+_, _*_}
 use native.Mathlib.Omega.{arith}
@@ -19,29 +21,23 @@ Inv-loop key width count words out₀ at i₀ left₀ from₀ out i left from =
 abbrev μ-loop : tie.MeasureT-loop
 μ-loop key width count words out₀ at i₀ left₀ from₀ out i left from = left
 
--- src/row.rt:77:5
 loop-holds : tie.Need-loop-holds Inv-loop μ-loop
 loop-holds c = (omega arith, c .before .before .before .pre .1, refl, λ m after e. e)
 
--- src/row.rt:78:9
 sub-left : tie.Need-sub-left Inv-loop μ-loop
 sub-left c = search needs
 
--- src/row.rt:79:9
 put-line-requires : tie.Need-put-line-requires Inv-loop μ-loop
 put-line-requires c κs =
     let l = c .before .before .loop in
     (omega (arith, mul-down (c .before .before .loop .left) (c .before .before .before .before .before .before .args .width) (c .before .loop-test .taken), l .inv .0), omega (arith, length-on (c .before .before .before .before .before .before .args .key .now) (c .before .before .before .before .before .before .args .width) (c .before .before .loop .left) (c .before .before .loop .from) (c .before .before .before .before .before .before .args .words .now) (c .before .loop-test .taken), l .inv .1))
 
--- src/row.rt:80:9
 add-from : tie.Need-add-from Inv-loop μ-loop
 add-from c = omega (arith, mul-down (c .before .before .before .before .before .loop .left) (c .before .before .before .before .before .before .before .before .before .args .width) (c .before .before .before .before .loop-test .taken), c .before .before .before .before .before .loop .inv .0, c .before .before .before .before .before .before .before .before .before .good)
 
--- src/row.rt:77:5
 loop-less : tie.Need-loop-less Inv-loop μ-loop
 loop-less c = search needs
 
--- src/row.rt:77:5
 loop-again : tie.Need-loop-again Inv-loop μ-loop
 loop-again c =
     let a = c .before .before .before .before .before .before .before .before .before .args in
@@ -55,11 +51,9 @@ loop-again c =
       λ m last e. l .inv .3 m last (put-on (a .key .now) (a .width) (l .left) (l .from) (a .words .now) p (l .out) (l .i) (t .result) m after last (t .ensures) e),
     )
 
--- src/row.rt:70:1
 same-length : tie.Need-same-length Inv-loop μ-loop
 same-length c = c .before .loop .inv .2
 
--- src/row.rt:70:1
 returns : tie.Need-returns Inv-loop μ-loop
 returns c =
     let a = c .before .before .before .before .before .args in

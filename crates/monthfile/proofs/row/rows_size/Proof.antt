@@ -1,3 +1,5 @@
+-- `monthfile::row::rows_size` meets its contract.
+-- Assumes nothing.
 use Prim.Native.Nat.{ℕ, _≤_, _+_, _*_}
 use native.Mathlib.Omega.{arith}
 use lib.ListN.{length, drop}
@@ -17,27 +19,21 @@ Inv-loop key width count words before cap size₀ left₀ from₀ size left from
 abbrev μ-loop : tie.MeasureT-loop
 μ-loop key width count words before cap size₀ left₀ from₀ size left from = left
 
--- src/row.rt:61:5
 loop-holds : tie.Need-loop-holds Inv-loop μ-loop
 loop-holds c = (omega arith, c .before .before .pre .1, λ m e. e)
 
--- src/row.rt:62:9
 sub-left : tie.Need-sub-left Inv-loop μ-loop
 sub-left c = search needs
 
--- src/row.rt:63:9
 line-size-requires : tie.Need-line-size-requires Inv-loop μ-loop
 line-size-requires c κs = (omega (arith, mul-down (c .before .loop .left) (c .before .before .before .before .args .width) (c .loop-test .taken), c .before .loop .inv .0), c .before .loop .inv .1)
 
--- src/row.rt:64:9
 add-from : tie.Need-add-from Inv-loop μ-loop
 add-from c = omega (arith, mul-down (c .before .before .loop .left) (c .before .before .before .before .before .args .width) (c .before .loop-test .taken), c .before .before .loop .inv .0, c .before .before .before .before .before .good)
 
--- src/row.rt:61:5
 loop-less : tie.Need-loop-less Inv-loop μ-loop
 loop-less c = search needs
 
--- src/row.rt:61:5
 loop-again : tie.Need-loop-again Inv-loop μ-loop
 loop-again c =
     let a = c .before .before .before .before .before .args in
@@ -48,7 +44,6 @@ loop-again c =
           (c .line-size .result) m (c .line-size .ensures) e),
     )
 
--- src/row.rt:54:1
 returns : tie.Need-returns Inv-loop μ-loop
 returns c =
     let a = c .before .before .before .before .args in

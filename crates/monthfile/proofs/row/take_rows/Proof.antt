@@ -1,3 +1,5 @@
+-- `monthfile::row::take_rows` meets its contract.
+-- Assumes nothing.
 use mathlib.Core.Path.{_≡_, refl, sym, ap, _∙_}
 use Prim.Native.Nat.{_≤_, _+_, _*_}
 use native.Mathlib.Omega.{arith}
@@ -20,15 +22,12 @@ Inv-loop text at key width count words₀ i₀ left₀ place₀ words i left pla
 abbrev μ-loop : tie.MeasureT-loop
 μ-loop text at key width count words₀ i₀ left₀ place₀ words i left place = left
 
--- src/row.rt:45:5
 loop-holds : tie.Need-loop-holds Inv-loop μ-loop
 loop-holds c = (c .before .before .before .pre .0, omega arith, c .before .before .before .pre .1, refl, refl, refl)
 
--- src/row.rt:46:9
 sub-left : tie.Need-sub-left Inv-loop μ-loop
 sub-left c = search needs
 
--- src/row.rt:47:9
 take-line-requires : tie.Need-take-line-requires Inv-loop μ-loop
 take-line-requires c κs =
     let a = c .before .before .before .before .before .before .args in
@@ -37,15 +36,12 @@ take-line-requires c κs =
       omega (arith, mul-down (c .before .before .loop .left) (c .before .before .before .before .before .before .args .width) (c .before .loop-test .taken), l .inv .1, l .inv .5, c .before .before .before .before .before .before .pre .2),
     )
 
--- src/row.rt:48:9
 add-place : tie.Need-add-place Inv-loop μ-loop
 add-place c = omega (arith, mul-down (c .before .before .before .before .before .loop .left) (c .before .before .before .before .before .before .before .before .before .args .width) (c .before .before .before .before .loop-test .taken), c .before .before .before .before .before .loop .inv .1, c .before .before .before .before .before .loop .inv .5, c .before .before .before .before .before .before .before .before .before .pre .2, c .before .before .before .before .before .before .before .before .before .good)
 
--- src/row.rt:45:5
 loop-less : tie.Need-loop-less Inv-loop μ-loop
 loop-less c = search needs
 
--- src/row.rt:45:5
 loop-again : tie.Need-loop-again Inv-loop μ-loop
 loop-again c =
     let a = c .before .before .before .before .before .before .before .before .before .args in
@@ -61,11 +57,9 @@ loop-again c =
       t .kept .1 .1 .1 .1 .0 ∙ l .inv .5,
     )
 
--- src/row.rt:38:1
 same-length : tie.Need-same-length Inv-loop μ-loop
 same-length c = c .before .loop .inv .5
 
--- src/row.rt:38:1
 returns : tie.Need-returns Inv-loop μ-loop
 returns c =
     let a = c .before .before .before .before .before .args in

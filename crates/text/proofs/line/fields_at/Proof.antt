@@ -1,3 +1,5 @@
+-- `text::line::fields_at` meets its contract.
+-- Assumes nothing.
 use Prim.Native.Nat.{_≤_, _<_}
 use native.Mathlib.Nat.{pos-of-ne-zero}
 use lib.ListN.{length, drop}
@@ -14,29 +16,23 @@ Inv-loop text at width i₀ left₀ i left =
 abbrev μ-loop : tie.MeasureT-loop
 μ-loop text at width i₀ left₀ i left = left
 
--- src/line.rt:55:5
 loop-holds : tie.Need-loop-holds Inv-loop μ-loop
 loop-holds c = (c .before .pre .0, c .before .pre .1, partly-start _)
 
--- src/line.rt:56:9
 sub-left : tie.Need-sub-left Inv-loop μ-loop
 sub-left c = search needs
 
--- src/line.rt:57:13
 field-at-requires : tie.Need-field-at-requires Inv-loop μ-loop
 field-at-requires c κs = search needs
 
--- src/line.rt:60:13
 returns : tie.Need-returns Inv-loop μ-loop
 returns c =
     fields-missing (c .before .before .before .before .before .args .text .now) _ (c .before .before .before .loop .i) (c .before .before .before .loop .left) (c .before .before .before .loop .inv .2)
     (c .before .before .loop-test .taken) (c .before .field-at .result) (c .before .field-at .ensures) (c .if1 .taken)
 
--- src/line.rt:55:5
 loop-less : tie.Need-loop-less Inv-loop μ-loop
 loop-less c = search needs
 
--- src/line.rt:55:5
 loop-again : tie.Need-loop-again Inv-loop μ-loop
 loop-again c = (
   pos-of-ne-zero (c .if1 .left),
@@ -45,7 +41,6 @@ loop-again c = (
       (c .before .before .loop-test .taken) (c .before .field-at .result) (c .before .field-at .ensures) (c .if1 .left),
 )
 
--- src/line.rt:49:1
 returns-2 : tie.Need-returns-2 Inv-loop μ-loop
 returns-2 c =
     fields-end (c .before .before .before .args .text .now) _ (c .before .loop .i) (c .before .loop .left) (c .before .loop .inv .2)

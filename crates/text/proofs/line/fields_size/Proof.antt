@@ -1,3 +1,5 @@
+-- `text::line::fields_size` meets its contract.
+-- Assumes nothing.
 use mathlib.Core.Path.{_≡_, refl, ap, _∙_}
 use Prim.Native.Nat.{_≤_, _+_, _-_, min}
 use native.Mathlib.Omega.{arith}
@@ -18,43 +20,33 @@ Inv-loop words from width before cap size₀ left₀ next₀ size left next =
 abbrev μ-loop : tie.MeasureT-loop
 μ-loop words from width before cap size₀ left₀ next₀ size left next = left
 
--- src/line.rt:137:5
 loop-holds : tie.Need-loop-holds Inv-loop μ-loop
 loop-holds c = (c .before .pre .0, c .before .pre .1, refl)
 
--- src/line.rt:138:9
 sub-left : tie.Need-sub-left Inv-loop μ-loop
 sub-left c = search needs
 
--- src/line.rt:139:61
 mul-number-size : tie.Need-mul-number-size Inv-loop μ-loop
 mul-number-size c = search needs
 
--- src/line.rt:139:61
 shared-slice-read-number-size : tie.Need-shared-slice-read-number-size Inv-loop μ-loop
 shared-slice-read-number-size c = search needs
 
--- src/line.rt:139:41
 number-size-requires : tie.Need-number-size-requires Inv-loop μ-loop
 number-size-requires c κs = search needs
 
--- src/line.rt:139:41
 add-add-capped : tie.Need-add-add-capped Inv-loop μ-loop
 add-add-capped c = omega (arith, c .number-size .ensures, length-decimal (at (c .before .before .before .before .before .args .words .now) (c .before .before .before .loop .next)))
 
--- src/line.rt:139:9
 add-capped-requires : tie.Need-add-capped-requires Inv-loop μ-loop
 add-capped-requires c κs = search needs
 
--- src/line.rt:140:9
 add-next : tie.Need-add-next Inv-loop μ-loop
 add-next c = search needs
 
--- src/line.rt:137:5
 loop-less : tie.Need-loop-less Inv-loop μ-loop
 loop-less c = search needs
 
--- src/line.rt:137:5
 loop-again : tie.Need-loop-again Inv-loop μ-loop
 loop-again c =
     let l = c .before .before .before .before .loop in
@@ -68,7 +60,6 @@ loop-again c =
           ≡ min (l .size + length (fieldsText (take (l .left) (drop (l .next) (a .words .now))))) (a .cap) = omega arith in q) ∙ l .inv .2,
     )
 
--- src/line.rt:130:1
 returns : tie.Need-returns Inv-loop μ-loop
 returns c =
     let l = c .before .loop in

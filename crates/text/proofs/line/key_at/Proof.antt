@@ -1,3 +1,5 @@
+-- `text::line::key_at` meets its contract.
+-- Assumes nothing.
 use mathlib.Core.Path.{_≡_, refl}
 use Prim.Native.Nat.{ℕ, _≤_, _-_}
 use native.Mathlib.Omega.{arith}
@@ -18,59 +20,45 @@ Inv-loop text at key i₀ k₀ i k =
 abbrev μ-loop : tie.MeasureT-loop
 μ-loop text at key i₀ k₀ i k = length key - k
 
--- src/line.rt:73:5
 loop-holds : tie.Need-loop-holds Inv-loop μ-loop
 loop-holds c = (omega arith, λ go. refl)
 
--- src/line.rt:75:13
 returns : tie.Need-returns Inv-loop μ-loop
 returns c = key-short (c .before .before .before .args .key .now) (c .before .before .before .args .text .now) _ (c .before .before .loop .k) (c .before .before .loop .i) (c .before .before .loop .inv .1) (c .before .loop-test .taken) (c .if1 .taken)
 
--- src/line.rt:77:12
 shared-slice-read-if2 : tie.Need-shared-slice-read-if2 Inv-loop μ-loop
 shared-slice-read-if2 c = search needs
 
--- src/line.rt:77:23
 shared-slice-read-if2-2 : tie.Need-shared-slice-read-if2-2 Inv-loop μ-loop
 shared-slice-read-if2-2 c = search needs
 
--- src/line.rt:78:13
 returns-2 : tie.Need-returns-2 Inv-loop μ-loop
 returns-2 c = key-other (c .before .before .before .before .before .before .args .key .now) (c .before .before .before .before .before .before .args .text .now) _ (c .before .before .before .before .before .loop .k) (c .before .before .before .before .before .loop .i) (c .before .before .before .before .before .loop .inv .1) (c .before .before .before .before .loop-test .taken) (c .before .before .before .if1 .left) (c .if2 .taken)
 
--- src/line.rt:80:9
 add-i : tie.Need-add-i Inv-loop μ-loop
 add-i c = search needs
 
--- src/line.rt:81:9
 add-k : tie.Need-add-k Inv-loop μ-loop
 add-k c = search needs
 
--- src/line.rt:73:5
 loop-less : tie.Need-loop-less Inv-loop μ-loop
 loop-less c = search needs
 
--- src/line.rt:73:5
 loop-again : tie.Need-loop-again Inv-loop μ-loop
 loop-again c = (omega arith, key-next (c .before .before .before .before .before .before .args .key .now) (c .before .before .before .before .before .before .args .text .now) _ (c .before .before .before .before .before .loop .k) (c .before .before .before .before .before .loop .i) (c .before .before .before .before .before .loop .inv .1) (c .before .before .before .before .loop-test .taken) (c .before .before .before .if1 .left) (c .if2 .left))
 
--- src/line.rt:84:9
 returns-3 : tie.Need-returns-3 Inv-loop μ-loop
 returns-3 c = key-cut (c .before .before .before .args .key .now) (c .before .before .before .args .text .now) _ (c .before .before .loop .k) (c .before .before .loop .i) (c .before .before .loop .inv .1) (c .before .loop-test .left) (c .if3 .taken)
 
--- src/line.rt:86:8
 shared-slice-read-if4 : tie.Need-shared-slice-read-if4 Inv-loop μ-loop
 shared-slice-read-if4 c = search needs
 
--- src/line.rt:87:9
 returns-4 : tie.Need-returns-4 Inv-loop μ-loop
 returns-4 c = key-open (c .before .before .before .before .before .args .key .now) (c .before .before .before .before .before .args .text .now) _ (c .before .before .before .before .loop .k) (c .before .before .before .before .loop .i) (c .before .before .before .before .loop .inv .1) (c .before .before .before .loop-test .left) (c .before .before .if3 .left) (c .if4 .taken)
 
--- src/line.rt:89:5
 add-result : tie.Need-add-result Inv-loop μ-loop
 add-result c = search needs
 
--- src/line.rt:68:1
 returns-5 : tie.Need-returns-5 Inv-loop μ-loop
 returns-5 c = key-there (c .before .before .before .before .before .args .key .now) (c .before .before .before .before .before .args .text .now) _ (c .before .before .before .before .loop .k) (c .before .before .before .before .loop .i) (c .before .before .before .before .loop .inv .1) (c .before .before .before .loop-test .left) (c .before .before .if3 .left) (c .if4 .left)
 

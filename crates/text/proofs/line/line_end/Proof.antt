@@ -1,4 +1,4 @@
--- `line::line_end` meets its contract: the scanner's answer is the line's end, and behind its beginning; where it is 0, the beginning is.
+-- `text::line::line_end` meets its contract: the scanner's answer is the line's end, and behind its beginning; where it is 0, the beginning is.
 -- Assumes nothing.
 use Rattle.text.proofs.Readers.{end-stays, end-moves}
 use borrow.Author.Needs.{needs}

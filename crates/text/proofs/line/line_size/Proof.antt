@@ -1,3 +1,5 @@
+-- `text::line::line_size` meets its contract.
+-- Assumes nothing.
 use native.Mathlib.Omega.{arith}
 use lib.ListN.{take, drop}
 use Rattle.text.proofs.Pieces.{length-key}
@@ -5,19 +7,15 @@ use borrow.Author.Needs.{needs}
 use Rattle.text.proofs.line.line_size.Statement.{statement}
 use Rattle.text.proofs.line.line_size.Tie as tie
 
--- src/line.rt:150:43
 add-add-capped : tie.Need-add-add-capped
 add-add-capped c = search needs
 
--- src/line.rt:150:9
 add-capped-requires : tie.Need-add-capped-requires
 add-capped-requires c κs = search needs
 
--- src/line.rt:151:5
 fields-size-requires : tie.Need-fields-size-requires
 fields-size-requires c κs = search needs
 
--- src/line.rt:146:1
 returns : tie.Need-returns
 returns c =
     let a = c .before .before .before .before .args in

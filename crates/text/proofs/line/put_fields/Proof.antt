@@ -1,3 +1,5 @@
+-- `text::line::put_fields` meets its contract.
+-- Assumes nothing.
 use mathlib.Core.Path.{_≡_, refl, sym, ap, _∙_}
 use Prim.Native.Nat.{_≤_, _+_}
 use native.Mathlib.Omega.{arith}
@@ -21,47 +23,36 @@ Inv-loop words from width out₀ at i₀ left₀ next₀ out i left next =
 abbrev μ-loop : tie.MeasureT-loop
 μ-loop words from width out₀ at i₀ left₀ next₀ out i left next = left
 
--- src/line.rt:177:5
 loop-holds : tie.Need-loop-holds Inv-loop μ-loop
 loop-holds c = (c .before .before .pre .0, refl, refl, refl)
 
--- src/line.rt:178:9
 sub-left : tie.Need-sub-left Inv-loop μ-loop
 sub-left c = search needs
 
--- src/line.rt:179:32
 mul-put-number : tie.Need-mul-put-number Inv-loop μ-loop
 mul-put-number c = omega arith
 
--- src/line.rt:179:32
 shared-slice-read-put-number : tie.Need-shared-slice-read-put-number Inv-loop μ-loop
 shared-slice-read-put-number c = search needs
 
--- src/line.rt:179:9
 put-number-requires : tie.Need-put-number-requires Inv-loop μ-loop
 put-number-requires c κs = omega (arith, length-next (c .before .before .before .before .before .before .args .words .now) (c .before .before .before .loop .left) (c .before .before .before .loop .next) (c .before .before .loop-test .taken) (c .before .before .before .loop .inv .0), c .before .before .before .loop .inv .1, c .before .before .before .loop .inv .3, c .before .before .before .before .before .before .pre .1)
 
--- src/line.rt:180:18
 separator-requires : tie.Need-separator-requires Inv-loop μ-loop
 separator-requires c κs = search needs
 
--- src/line.rt:180:9
 slice-write-out : tie.Need-slice-write-out Inv-loop μ-loop
 slice-write-out c = omega (arith, length-next (c .before .before .before .before .before .before .before .before .before .before .args .words .now) (c .before .before .before .before .before .before .before .loop .left) (c .before .before .before .before .before .before .before .loop .next) (c .before .before .before .before .before .before .loop-test .taken) (c .before .before .before .before .before .before .before .loop .inv .0), c .before .before .before .put-number .kept .1 .0, c .before .before .before .put-number .ensures .onward, c .before .before .before .before .before .before .before .loop .inv .1, c .before .before .before .before .before .before .before .loop .inv .3, c .before .before .before .before .before .before .before .before .before .before .pre .1)
 
--- src/line.rt:181:9
 add-i : tie.Need-add-i Inv-loop μ-loop
 add-i c = omega (arith, length-next (c .before .before .before .before .before .before .before .before .before .before .args .words .now) (c .before .before .before .before .before .before .before .loop .left) (c .before .before .before .before .before .before .before .loop .next) (c .before .before .before .before .before .before .loop-test .taken) (c .before .before .before .before .before .before .before .loop .inv .0), c .before .before .before .put-number .kept .1 .0, c .before .before .before .put-number .ensures .onward, c .before .before .before .before .before .before .before .loop .inv .1, c .before .before .before .before .before .before .before .loop .inv .3, c .before .before .before .before .before .before .before .before .before .before .pre .1, c .before .before .before .before .before .before .before .before .before .before .good)
 
--- src/line.rt:182:9
 add-next : tie.Need-add-next Inv-loop μ-loop
 add-next c = search needs
 
--- src/line.rt:177:5
 loop-less : tie.Need-loop-less Inv-loop μ-loop
 loop-less c = search needs
 
--- src/line.rt:177:5
 loop-again : tie.Need-loop-again Inv-loop μ-loop
 loop-again c =
     let l = c .before .before .before .before .before .before .before .loop in
@@ -78,11 +69,9 @@ loop-again c =
       length-set (put .last .1 .0) (put .result) (c .separator .result) ∙ put .kept .1 .0 ∙ l .inv .3,
     )
 
--- src/line.rt:170:1
 same-length : tie.Need-same-length Inv-loop μ-loop
 same-length c = c .before .loop .inv .3
 
--- src/line.rt:170:1
 returns : tie.Need-returns Inv-loop μ-loop
 returns c =
     let l = c .before .loop in

@@ -1,3 +1,5 @@
+-- `text::line::take_fields` meets its contract.
+-- Assumes nothing.
 use mathlib.Core.Path.{_≡_, refl, sym, ap, _∙_}
 use Prim.Native.Nat.{_≤_, _+_}
 use native.Mathlib.Omega.{arith}
@@ -24,35 +26,27 @@ Inv-loop text at width words₀ place i₀ left₀ store₀ words i left store =
 abbrev μ-loop : tie.MeasureT-loop
 μ-loop text at width words₀ place i₀ left₀ store₀ words i left store = left
 
--- src/line.rt:111:5
 loop-holds : tie.Need-loop-holds Inv-loop μ-loop
 loop-holds c = (refl, c .before .before .pre .0, c .before .before .pre .1, refl, refl, refl)
 
--- src/line.rt:112:9
 sub-left : tie.Need-sub-left Inv-loop μ-loop
 sub-left c = search needs
 
--- src/line.rt:113:13
 field-at-requires : tie.Need-field-at-requires Inv-loop μ-loop
 field-at-requires c κs = search needs
 
--- src/line.rt:114:9
 mul-words : tie.Need-mul-words Inv-loop μ-loop
 mul-words c = omega arith
 
--- src/line.rt:114:9
 slice-write-words : tie.Need-slice-write-words Inv-loop μ-loop
 slice-write-words c = omega arith
 
--- src/line.rt:116:9
 add-store : tie.Need-add-store Inv-loop μ-loop
 add-store c = omega arith
 
--- src/line.rt:111:5
 loop-less : tie.Need-loop-less Inv-loop μ-loop
 loop-less c = search needs
 
--- src/line.rt:111:5
 loop-again : tie.Need-loop-again Inv-loop μ-loop
 loop-again c =
     let l = c .before .before .loop in
@@ -68,11 +62,9 @@ loop-again c =
       length-set (l .words) (l .store) (r .value) ∙ l .inv .5,
     )
 
--- src/line.rt:104:1
 same-length : tie.Need-same-length Inv-loop μ-loop
 same-length c = c .before .loop .inv .5
 
--- src/line.rt:104:1
 returns : tie.Need-returns Inv-loop μ-loop
 returns c =
     let l = c .before .loop in

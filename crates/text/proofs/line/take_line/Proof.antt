@@ -1,3 +1,5 @@
+-- `text::line::take_line` meets its contract.
+-- Assumes nothing.
 use mathlib.Core.Path.{sym, ap, _∙_}
 use native.Mathlib.Omega.{arith}
 use Rattle.text.specs.Places.{restOf, fieldsOf, stored}
@@ -5,25 +7,20 @@ use Rattle.text.proofs.Places.{keyed}
 use Rattle.text.proofs.line.take_line.Statement.{statement}
 use Rattle.text.proofs.line.take_line.Tie as tie
 
--- src/line.rt:126:23
 add-take-fields : tie.Need-add-take-fields
 add-take-fields c = omega (arith, keyed (c .before .before .before .args .key .now) (c .before .before .before .args .width) (c .before .before .before .args .text .now) (c .before .before .before .args .at) (c .before .before .before .pre .0) .inside)
 
--- src/line.rt:126:23
 add-take-fields-2 : tie.Need-add-take-fields-2
 add-take-fields-2 c = omega (arith, keyed (c .before .before .before .args .key .now) (c .before .before .before .args .width) (c .before .before .before .args .text .now) (c .before .before .before .args .at) (c .before .before .before .pre .0) .inside)
 
--- src/line.rt:126:5
 take-fields-requires : tie.Need-take-fields-requires
 take-fields-requires c κs =
     let there = keyed (c .before .before .before .before .args .key .now) (c .before .before .before .before .args .width) (c .before .before .before .before .args .text .now) (c .before .before .before .before .args .at) (c .before .before .before .before .pre .0) in
     (there .inside, (λ e. c .before .before .before .before .pre .0 (sym (there .same) ∙ e)), c .before .before .before .before .pre .1)
 
--- src/line.rt:122:1
 same-length : tie.Need-same-length
 same-length c = c .before .before .take-fields .kept .1 .1 .1 .0
 
--- src/line.rt:122:1
 returns : tie.Need-returns
 returns c =
     let there = keyed (c .before .before .before .before .before .before .before .args .key .now) (c .before .before .before .before .before .before .before .args .width) (c .before .before .before .before .before .before .before .args .text .now) (c .before .before .before .before .before .before .before .args .at) (c .before .before .before .before .before .before .before .pre .0) in

@@ -1,3 +1,5 @@
+-- `text::number::digit_of` meets its contract.
+-- Assumes nothing.
 use mathlib.Core.Path.{_≡_}
 use native.Mathlib.Omega.{arith}
 use Rattle.text.proofs.Numbers.{digit-range}
@@ -5,19 +7,15 @@ use borrow.Author.Needs.{needs}
 use Rattle.text.proofs.number.digit_of.Statement.{statement}
 use Rattle.text.proofs.number.digit_of.Tie as tie
 
--- src/number.rt:41:5
 wide-requires : tie.Need-wide-requires
 wide-requires c κs = search needs
 
--- src/number.rt:41:18
 wide-requires-2 : tie.Need-wide-requires-2
 wide-requires-2 c κs = search needs
 
--- src/number.rt:41:5
 sub-result : tie.Need-sub-result
 sub-result c = omega (arith, digit-range (c .before .before .args .byte) (c .before .before .pre))
 
--- src/number.rt:37:1
 returns : tie.Need-returns
 returns c =
     let range = digit-range (c .before .before .args .byte) (c .before .before .pre) in

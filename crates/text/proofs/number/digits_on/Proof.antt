@@ -1,3 +1,5 @@
+-- `text::number::digits_on` meets its contract.
+-- Assumes nothing.
 use mathlib.Core.Path.{_≡_, refl, sym, ap, _∙_}
 use Prim.Native.Nat.{_≤_, _<_, _+_, _*_, _-_}
 use native.Mathlib.Omega.{arith}
@@ -17,34 +19,27 @@ Inv-loop text at first value₀ i₀ value i = (digitsOn first (drop at text) �
 abbrev μ-loop : tie.MeasureT-loop
 μ-loop text at first value₀ i₀ value i = length text - i
 
--- src/number.rt:51:5
 loop-holds : tie.Need-loop-holds Inv-loop μ-loop
 loop-holds c = (refl, c .before .pre .0, c .before .pre .1)
 
--- src/number.rt:52:20
 shared-slice-read-byte : tie.Need-shared-slice-read-byte Inv-loop μ-loop
 shared-slice-read-byte c = search needs
 
--- src/number.rt:53:13
 is-digit-requires : tie.Need-is-digit-requires Inv-loop μ-loop
 is-digit-requires c κs = search needs
 
--- src/number.rt:54:13
 returns : tie.Need-returns Inv-loop μ-loop
 returns c =
     let l = c .before .before .before .before .loop in
     digits-stop (c .before .before .before .before .before .before .args .text .now) _ (l .value) (l .i) (l .inv .0) (l .inv .1) (c .before .before .before .loop-test .taken)
     (sym (c .before .is-digit .ensures) ∙ not-true (c .before .is-digit .result) (c .if1 .taken))
 
--- src/number.rt:56:13
 digit-of-requires : tie.Need-digit-of-requires Inv-loop μ-loop
 digit-of-requires c κs = sym (c .before .is-digit .ensures) ∙ not-false (c .before .is-digit .result) (c .if1 .left)
 
--- src/number.rt:57:13
 sub-if2 : tie.Need-sub-if2 Inv-loop μ-loop
 sub-if2 c = search needs
 
--- src/number.rt:58:13
 returns-2 : tie.Need-returns-2 Inv-loop μ-loop
 returns-2 c =
     let l = c .before .before .before .before .before .before .loop in
@@ -54,23 +49,18 @@ returns-2 c =
     digits-big (c .before .before .before .before .before .before .before .before .args .text .now) _ (l .value) (l .i) (l .inv .0) (l .inv .1) (c .before .before .before .before .before .loop-test .taken) digit
     (omega (arith, one .ensures .0))
 
--- src/number.rt:60:17
 mul-value : tie.Need-mul-value Inv-loop μ-loop
 mul-value c = search needs
 
--- src/number.rt:60:17
 add-value : tie.Need-add-value Inv-loop μ-loop
 add-value c = search needs
 
--- src/number.rt:61:9
 add-i : tie.Need-add-i Inv-loop μ-loop
 add-i c = search needs
 
--- src/number.rt:51:5
 loop-less : tie.Need-loop-less Inv-loop μ-loop
 loop-less c = search needs
 
--- src/number.rt:51:5
 loop-again : tie.Need-loop-again Inv-loop μ-loop
 loop-again c =
     let l = c .before .before .before .before .before .before .loop in
@@ -86,7 +76,6 @@ loop-again c =
       omega (arith, c .before .before .before .before .before .loop-test .taken),
     )
 
--- src/number.rt:45:1
 returns-3 : tie.Need-returns-3 Inv-loop μ-loop
 returns-3 c =
     let l = c .before .loop in

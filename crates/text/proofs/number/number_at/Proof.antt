@@ -1,3 +1,5 @@
+-- `text::number::number_at` meets its contract.
+-- Assumes nothing.
 use mathlib.Core.Path.{sym, _∙_}
 use Rattle.text.proofs.Places.{number-stops, number-no-digit, number-is-zero, number-goes-on}
 use borrow.Author.Tests.{not-true, not-false}
@@ -5,45 +7,35 @@ use borrow.Author.Needs.{needs}
 use Rattle.text.proofs.number.number_at.Statement.{statement}
 use Rattle.text.proofs.number.number_at.Tie as tie
 
--- src/number.rt:71:9
 returns : tie.Need-returns
 returns c = number-stops (c .before .before .args .text .now) (c .before .before .args .at) (c .if1 .taken)
 
--- src/number.rt:73:16
 shared-slice-read-byte : tie.Need-shared-slice-read-byte
 shared-slice-read-byte c = search needs
 
--- src/number.rt:74:9
 is-digit-requires : tie.Need-is-digit-requires
 is-digit-requires c κs = search needs
 
--- src/number.rt:75:9
 returns-2 : tie.Need-returns-2
 returns-2 c =
     number-no-digit (c .before .before .before .before .before .args .text .now) (c .before .before .before .before .before .args .at) (c .before .before .before .if1 .left)
     (sym (c .before .is-digit .ensures) ∙ not-true (c .before .is-digit .result) (c .if2 .taken))
 
--- src/number.rt:78:41
 add-t9 : tie.Need-add-t9
 add-t9 c = search needs
 
--- src/number.rt:78:9
 returns-3 : tie.Need-returns-3
 returns-3 c = number-is-zero (c .before .before .before .before .before .before .args .text .now) (c .before .before .before .before .before .before .args .at) (c .before .before .before .before .if1 .left) (c .if3 .taken)
 
--- src/number.rt:80:21
 add-digits-on : tie.Need-add-digits-on
 add-digits-on c = search needs
 
--- src/number.rt:80:29
 digit-of-requires : tie.Need-digit-of-requires
 digit-of-requires c κs = sym (c .before .before .is-digit .ensures) ∙ not-false (c .before .before .is-digit .result) (c .before .if2 .left)
 
--- src/number.rt:80:5
 digits-on-requires : tie.Need-digits-on-requires
 digits-on-requires c κs = search needs
 
--- src/number.rt:67:1
 returns-4 : tie.Need-returns-4
 returns-4 c =
     number-goes-on (c .before .before .before .before .before .before .before .before .args .text .now) (c .before .before .before .before .before .before .before .before .args .at) (c .before .before .before .before .before .before .if1 .left)

@@ -1,3 +1,5 @@
+-- `text::number::number_size` meets its contract.
+-- Assumes nothing.
 use mathlib.Core.Path.{_≡_, refl, ap}
 use Prim.Native.Nat.{_<_, _+_, _/_, _^_}
 use native.Mathlib.Omega.{arith}
@@ -14,26 +16,21 @@ Inv-loop number size₀ left₀ size left = (size + length (decimal left) ≡ 1 
 abbrev μ-loop : tie.MeasureT-loop
 μ-loop number size₀ left₀ size left = left
 
--- src/number.rt:81:5
 loop-holds : tie.Need-loop-holds Inv-loop μ-loop
 loop-holds c = (refl, c .fits .number .fits)
 
--- src/number.rt:83:9
 add-size : tie.Need-add-size Inv-loop μ-loop
 add-size c = omega (arith, length-decimal (c .before .before .args .number))
 
--- src/number.rt:81:5
 loop-less : tie.Need-loop-less Inv-loop μ-loop
 loop-less c = search needs
 
--- src/number.rt:81:5
 loop-again : tie.Need-loop-again Inv-loop μ-loop
 loop-again c =
     let l = c .before .loop in
     let tenth : length (decimal (l .left)) ≡ length (decimal (l .left / 10)) + 1 = length-tenth (l .left) (c .loop-test .taken) (l .inv .1) in
     (omega arith, omega arith)
 
--- src/number.rt:76:1
 returns : tie.Need-returns Inv-loop μ-loop
 returns c =
     let l = c .before .loop in

@@ -1,3 +1,5 @@
+-- `text::number::put_number` meets its contract.
+-- Assumes nothing.
 use mathlib.Core.Path.{_≡_, refl, sym, ap, _∙_}
 use Prim.Native.Nat.{_≤_, _<_, _+_, _/_, _%_, _-_, _^_}
 use native.Mathlib.Omega.{arith}
@@ -19,40 +21,31 @@ Inv-loop number out₀ at end i₀ left₀ out i left =
 abbrev μ-loop : tie.MeasureT-loop
 μ-loop number out₀ at end i₀ left₀ out i left = left
 
--- src/number.rt:101:20
 number-size-requires : tie.Need-number-size-requires Inv-loop μ-loop
 number-size-requires c κs = search needs
 
--- src/number.rt:101:15
 add-end : tie.Need-add-end Inv-loop μ-loop
 add-end c = omega (arith, c .number-size .ensures)
 
--- src/number.rt:104:5
 loop-holds : tie.Need-loop-holds Inv-loop μ-loop
 loop-holds c =
     (ap (λ k. c .before .before .args .at + k) (c .number-size .ensures), c .before .before .fits .number .fits, refl, refl, omega arith)
 
--- src/number.rt:105:9
 sub-i : tie.Need-sub-i Inv-loop μ-loop
 sub-i c = omega (arith, length-decimal (c .before .loop .left))
 
--- src/number.rt:106:25
 cast-out : tie.Need-cast-out Inv-loop μ-loop
 cast-out c = search needs
 
--- src/number.rt:106:18
 add-out : tie.Need-add-out Inv-loop μ-loop
 add-out c = search needs
 
--- src/number.rt:106:9
 slice-write-out : tie.Need-slice-write-out Inv-loop μ-loop
 slice-write-out c = omega (arith, length-decimal (c .before .loop .left))
 
--- src/number.rt:104:5
 loop-less : tie.Need-loop-less Inv-loop μ-loop
 loop-less c = search needs
 
--- src/number.rt:104:5
 loop-again : tie.Need-loop-again Inv-loop μ-loop
 loop-again c =
     let l = c .before .loop in
@@ -69,23 +62,18 @@ loop-again c =
       omega arith,
     )
 
--- src/number.rt:109:22
 cast-out-2 : tie.Need-cast-out-2 Inv-loop μ-loop
 cast-out-2 c = search needs
 
--- src/number.rt:109:15
 add-out-2 : tie.Need-add-out-2 Inv-loop μ-loop
 add-out-2 c = search needs
 
--- src/number.rt:109:5
 slice-write-out-2 : tie.Need-slice-write-out-2 Inv-loop μ-loop
 slice-write-out-2 c = omega (arith, length-decimal (c .before .loop .left))
 
--- src/number.rt:97:1
 same-length : tie.Need-same-length Inv-loop μ-loop
 same-length c = length-set (c .before .loop .out) _ _ ∙ c .before .loop .inv .3
 
--- src/number.rt:97:1
 returns : tie.Need-returns Inv-loop μ-loop
 returns c =
     let l = c .before .loop in

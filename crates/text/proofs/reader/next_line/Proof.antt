@@ -1,4 +1,4 @@
--- `reader::next_line` meets its contract: a walk of its MIR, by hand. A reader is made at the offset, steps once, and the offset that it reached is the answer. All that the proof knows of `reader_at`, `step` and `reached` is that each meets its contract.
+-- `text::reader::next_line` meets its contract: a walk of its MIR, by hand. A reader is made at the offset, steps once, and the offset that it reached is the answer. All that the proof knows of `reader_at`, `step` and `reached` is that each meets its contract.
 -- A `&[u8]` is Copy: of what the text and the key own one copy is kept whole for the exit. In a local of a body MIR erases the lifetime of a reader's type, so the value that a call returns is shown to have the type at `erased`.
 -- Assumes nothing.
 use mathlib.Core.Path.{_≡_, refl, ap}

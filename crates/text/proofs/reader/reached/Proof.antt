@@ -1,4 +1,4 @@
--- `reader::reached` meets its contract: its test is the definition's.
+-- `text::reader::reached` meets its contract: its test is the definition's.
 -- Assumes nothing.
 use borrow.Author.Tests.{eq-eqb, ne-eqb}
 use Rattle.text.proofs.reader.reached.Statement.{statement}

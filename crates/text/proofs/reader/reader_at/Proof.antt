@@ -1,4 +1,4 @@
--- `reader::reader_at` meets its contract: a walk of its MIR, by hand. A `Reader` is made of the slice and the offset passed, in the result's local.
+-- `text::reader::reader_at` meets its contract: a walk of its MIR, by hand. A `Reader` is made of the slice and the offset passed, in the result's local.
 -- A `&[u8]` is Copy, so what it owns is had twice: once for text at exit, and once inside the result, beside the facts of at.
 -- Assumes nothing.
 use mathlib.Core.Path.{refl}

@@ -1,4 +1,4 @@
--- `reader::step` meets its contract: a walk of its MIR, by hand. The reader is taken apart, `line_end` is called on its text and offset, and a reader is made of the same text and the offset that it answers. All that the proof knows of `line_end` is that it meets its contract.
+-- `text::reader::step` meets its contract: a walk of its MIR, by hand. The reader is taken apart, `line_end` is called on its text and offset, and a reader is made of the same text and the offset that it answers. All that the proof knows of `line_end` is that it meets its contract.
 -- A reader is Copy, and so is the key's `&[u8]`: what each owns is had twice, one copy is kept whole for the exit, and the other goes to the callee, beside the lifetimes' tokens, which come back. A copy of what the reader owns, with the new offset's facts in the place of at's, is what the result owns.
 -- Assumes nothing.
 use mathlib.Core.Path.{_≡_, refl, ap}
