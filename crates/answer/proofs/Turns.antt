@@ -50,6 +50,13 @@ then-assoc a b c =
     ap (λ k. k then c) (then-first a b d) ∙ then-first a c d ∙ sym (then-first a (b then c) d))
     (zero-or-not (a .number))
 
+-- in turn: what is accepted leaves the answer to what follows, what is refused stays
+pub then-on : {a b r : Answer} → a ≡ accepted → b ≡ r → (a then b) ≡ r
+then-on {a} {b} e f = then-second a b (ap (λ (k : Answer). k .number) e) ∙ f
+
+pub then-stays : {a r : Answer} → r .number ≢ 0 → (b : Answer) → a ≡ r → (a then b) ≡ r
+then-stays {a} d b e = then-first a b (λ z. d (ap (λ (k : Answer). k .number) (sym e) ∙ z)) ∙ e
+
 pub then-none : (a b : Answer) → (a then b) .number ≡ 0 → (a .number ≡ 0) × (b .number ≡ 0)
 then-none a b e =
     ⊎-elim

@@ -19,21 +19,17 @@ use Rattle.lists.proofs.Entries.{length-put, at-put, put-eq, put-over}
 use Rattle.lists.proofs.Ranks.{lt-or-le, larger-first, lower-first, smaller-later, higher-later}
 use Rattle.answer.proofs.Turns.{look-none, zero-or-not}
 use Rattle.division.specs.Limits.{potLimit, weightLimit, mostWeights, sizeRefusal}
+use Rattle.division.specs.Refused.{FineSize}
 use Rattle.division.specs.Shares.{quotient, remainder, leftover, comesBefore, getsCent, share}
 use Rattle.division.proofs.Bounds.{cents-fit, rest-fits}
 use Rattle.division.specs.Steps.{Base, CutDown, centsOf, keyOf, larger, handed}
-
--- what is known of a pot and a sum of weights that are not refused
-pub record Sized (pot w : ℕ) : Type 0 where
-  pub pot-fits : pot ≤ potLimit
-  pub sum-fits : w ≤ weightLimit
-  pub zero-sum : w ≡ 0 → pot ≡ 0
 
 not-both : (s t : Bool) → (s && t) ≡ false → t ≡ true → s ≡ false
 not-both true t e q = absurd (mathlib.Core.Bool.true≢false (sym q ∙ e))
 not-both false t e q = refl
 
-pub sized : (pot w : ℕ) → sizeRefusal pot w ≡ 0 → Sized pot w
+-- what is known of sizes that are not refused
+pub sized : (pot w : ℕ) → sizeRefusal pot w ≡ 0 → FineSize pot w
 unfolding sizeRefusal
 sized pot w e =
     let big = look-none (ltb potLimit pot || ltb weightLimit w) 8 _ (λ q. omega arith) e in
@@ -41,16 +37,16 @@ sized pot w e =
     let baseless = look-none (ltb 0 pot && eqb w 0) 9 0 (λ q. omega arith) (big .1) in
     record {
       pot-fits = ltb-false potLimit pot (limits .0);
-      sum-fits = ltb-false weightLimit w (limits .1);
-      zero-sum = λ z. let none : pot ≤ 0 = ltb-false 0 pot (not-both (ltb 0 pot) (eqb w 0) (baseless .0) (eq-eqb w 0 z)) in omega arith;
+      weights-fit = ltb-false weightLimit w (limits .1);
+      has-base = λ z. let none : pot ≤ 0 = ltb-false 0 pot (not-both (ltb 0 pot) (eqb w 0) (baseless .0) (eq-eqb w 0 z)) in omega arith;
     }
 
 -- the whole that the code divides by is the sum, or 1 where the sum is 0 and so the pot is
-module _ (pot w whole : ℕ) (size : Sized pot w) (is-whole : whole ≡ w + bit (eqb w 0)) where
+module _ (pot w whole : ℕ) (size : FineSize pot w) (is-whole : whole ≡ w + bit (eqb w 0)) where
   same-or-none : (whole ≡ w) ⊎ (pot ≡ 0)
   same-or-none =
       ⊎-elim
-      (λ (z : w ≡ 0). inr (size .zero-sum z))
+      (λ (z : w ≡ 0). inr (size .has-base z))
       (λ (d : w ≢ 0). inl (is-whole ∙ ap (λ t. w + bit t) (ne-eqb w 0 d) ∙ (let e : w + 0 ≡ w = omega arith in e)))
       (zero-or-not w)
 
@@ -68,7 +64,7 @@ module _ (pot w whole : ℕ) (size : Sized pot w) (is-whole : whole ≡ w + bit 
       (λ (z : pot ≡ 0). simp (z, zero-mul, zero-mod))
       same-or-none
 
-pub base-of : (pot : ℕ) (weights : List ℕ) (whole : ℕ) → Sized pot (total weights) → whole ≡ total weights + bit (eqb (total weights) 0)
+pub base-of : (pot : ℕ) (weights : List ℕ) (whole : ℕ) → FineSize pot (total weights) → whole ≡ total weights + bit (eqb (total weights) 0)
     → Base pot weights whole
 base-of pot weights whole size e =
     ⊎-elim
@@ -77,7 +73,7 @@ base-of pot weights whole size e =
     record { pot-fits = size .pot-fits; positive = omega arith; whole-fits = omega arith; adds-up = omega arith })
     (λ (d : total weights ≢ 0).
     let same : whole ≡ total weights + 0 = e ∙ ap (λ t. total weights + bit t) (ne-eqb (total weights) 0 d) in
-    record { pot-fits = size .pot-fits; positive = omega arith; whole-fits = omega (arith, size .sum-fits); adds-up = omega arith })
+    record { pot-fits = size .pot-fits; positive = omega arith; whole-fits = omega (arith, size .weights-fit); adds-up = omega arith })
     (zero-or-not (total weights))
 
 -- keys are ordered as their remainders, lower position first among equals
@@ -98,7 +94,7 @@ keyed f i j bi bj =
 
 module _
     (pot : ℕ) (weights : List ℕ) (whole : ℕ) (out out′ keys keys′ : List ℕ) (given : ℕ)
-    (size : Sized pot (total weights)) (is-whole : whole ≡ total weights + bit (eqb (total weights) 0))
+    (size : FineSize pot (total weights)) (is-whole : whole ≡ total weights + bit (eqb (total weights) 0))
     (few : length weights ≤ mostWeights) (room : length weights ≤ length out) (key-room : length weights ≤ length keys)
     (cut : CutDown pot weights whole out out′ keys keys′ given)
   where

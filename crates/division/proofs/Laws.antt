@@ -3,7 +3,7 @@
 -- size, and what a call leaves in the lent words.
 -- Assumes nothing.
 use mathlib.Core.Path.{_≡_, refl, sym, ap, ap₂, _∙_, subst}
-use mathlib.Core.Logic.{_⊎_, inl, inr, ⊎-elim, _≢_}
+use mathlib.Core.Logic.{_⊎_, inl, inr, ⊎-elim, _↔_, _≢_}
 use mathlib.Core.Bool.{Bool, true, false}
 use mathlib.Core.List.{List}
 use Prim.Native.Nat.{ℕ, _+_, _*_, _/_, _≤_, _<_, min}
@@ -23,7 +23,7 @@ use Rattle.answer.proofs.Turns.{zero-or-not, look-none}
 use Rattle.closeness.specs.Closeness.{level}
 use Rattle.division.specs.Limits.{mostWeights, potLimit, weightLimit, sizeRefusal, divideRefusal}
 use Rattle.division.specs.Shares.{quotient, remainder, leftover, comesBefore, getsCent, share, shares}
-use Rattle.division.specs.Refused.{SizeRefused, by-big, by-base}
+use Rattle.division.specs.Refused.{FineSize, SizeRefused, by-big, by-base}
 use Rattle.division.proofs.Handed.{sized}
 use Rattle.division.proofs.Parts.{exact, remainder-below, larger-gets, share-is, shares-sum, nothing-cut}
 use Rattle.division.proofs.Refusals as refusals
@@ -32,7 +32,7 @@ use Rattle.division.proofs.Members.{no-quotient, no-remainder, share-al
 -- the number of a call with the right counts, what it leaves in the lent words, and a sum that stops at one above its limit
 pub use Rattle.division.proofs.Refusals.{by-size, memory-accepted, memory-refused, number-is, sum-is}
 -- sizes that are not refused, and why others are
-pub use Rattle.division.proofs.Handed.{Sized, sized}
+pub use Rattle.division.proofs.Handed.{sized}
 pub use Rattle.division.proofs.Reasons.{size-why, why-size, size-within, fits-size}
 
 -- there are as many shares as weights
@@ -146,15 +146,15 @@ module _ (pot : ℕ) (weights : List ℕ) (positive : 0 < total weights) where
       le-leb (total weights * at (shares pot weights) i + pot * at weights j) (total weights * at (shares pot weights) j + pot * at weights i + total weights)
       (omega (arith, scaled i bi, scaled j bj, exact pot weights positive i, exact pot weights positive j, cents-level i j bi bj))))
 
--- what is known of sizes that are not refused, and the sizes that are not
-pub size-accepted : (pot w : ℕ) → sizeRefusal pot w ≡ 0 → (pot ≤ potLimit) × (w ≤ weightLimit) × (w ≡ 0 → pot ≡ 0)
-size-accepted pot w e = let s = sized pot w e in (s .pot-fits, s .sum-fits, s .zero-sum)
+-- sizes are not refused exactly where they are fine
+pub size-exactly : (pot w : ℕ) → (sizeRefusal pot w ≡ 0) ↔ FineSize pot w
+size-exactly pot w = (sized pot w, reasons.fits-size pot w)
 
 -- no share of sizes that are not refused is above the limit of a pot
 pub share-fits : (pot : ℕ) (weights : List ℕ) → sizeRefusal pot (total weights) ≡ 0 → (i : ℕ) → at (shares pot weights) i ≤ potLimit
 share-fits pot weights e i =
-    let known = size-accepted pot (total weights) e in
-    le-trans (share-within pot weights (known .2) i) (known .0)
+    let known = sized pot (total weights) e in
+    le-trans (share-within pot weights (known .has-base) i) (known .pot-fits)
 
 -- a pot and a sum of weights within their limits are not BIG ..
 pub never-big : (pot w : ℕ) → pot ≤ potLimit → w ≤ weightLimit → (sizeRefusal pot w ≡ 0) ⊎ (sizeRefusal pot w ≡ BASE)
@@ -176,13 +176,12 @@ never-base pot w base =
 
 -- what is known of a division that is not refused
 pub divide-accepted : (pot : ℕ) (weights : List ℕ) (room : ℕ) → divideRefusal pot weights room ≡ 0
-    → (length weights ≤ mostWeights) × (length weights ≤ room) × (pot ≤ potLimit) × (total weights ≤ weightLimit) × (total weights ≡ 0 → pot ≡ 0)
+    → (length weights ≤ mostWeights) × (length weights ≤ room) × FineSize pot (total weights)
 unfolding divideRefusal
 divide-accepted pot weights room e =
     let many = look-none (ltb mostWeights (length weights)) 1 _ (λ q. omega arith) e in
     let short = look-none (ltb room (length weights)) 2 _ (λ q. omega arith) (many .1) in
-    let size = size-accepted pot (total weights) (short .1) in
-    (ltb-false mostWeights (length weights) (many .0), ltb-false room (length weights) (short .0), size .0, size .1, size .2)
+    (ltb-false mostWeights (length weights) (many .0), ltb-false room (length weights) (short .0), sized pot (total weights) (short .1))
 
 -- more than 64 weights are COUNT, and of the room only as much counts as 64 weights can want
 pub many-weights : (pot : ℕ) (weights : List ℕ) (room : ℕ) → mostWeights < length weights → divideRefusal pot weights room ≡ COUNT

@@ -12,19 +12,20 @@ use Rattle.lists.specs.Sums.{at, total, bit, rank}
 use Rattle.lists.proofs.Ranks.{true-or-false, rank-less, larger-first, lower-first}
 use Rattle.closeness.specs.Closeness.{distance}
 use Rattle.closeness.proofs.Promises.{level-within-a-cent}
-use Rattle.division.specs.Limits.{mostWeights, potLimit, weightLimit, divideRefusal}
+use Rattle.division.specs.Limits.{mostWeights, divideRefusal}
 use Rattle.division.specs.Shares.{quotient, remainder, leftover, comesBefore, getsCent, share, shares}
 use Rattle.division.proofs.Laws as laws
 use Rattle.division.proofs.Parts.{ordered, share-is}
+use Rattle.division.specs.Refused.{FineSize}
 use Rattle.division.proofs.Reasons.{fits-size}
 use Rattle.division.proofs.Refusals as refusals
 
 pub divide-accepts : (pot : ℕ) (weights : List ℕ) (room : ℕ)
     → (divideRefusal pot weights room ≡ 0)
-    ↔ ((length weights ≤ mostWeights) × (length weights ≤ room) × (pot ≤ potLimit) × (total weights ≤ weightLimit) × (total weights ≡ 0 → pot ≡ 0))
+    ↔ ((length weights ≤ mostWeights) × (length weights ≤ room) × FineSize pot (total weights))
 divide-accepts pot weights room = (
   laws.divide-accepted pot weights room,
-  λ g. refusals.by-size pot weights room (g .0) (g .1) ∙ fits-size pot (total weights) (g .2) (g .3) (g .4),
+  λ g. refusals.by-size pot weights room (g .0) (g .1) ∙ fits-size pot (total weights) (g .2),
 )
 
 pub shares-add-up : (pot : ℕ) (weights : List ℕ) → 0 < total weights → total (shares pot weights) ≡ pot

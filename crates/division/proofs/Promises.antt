@@ -9,9 +9,9 @@ use Prim.Native.Nat.{ℕ, _+_, _≤_, _<_}
 use lib.ListN.{length, drop}
 use Rattle.lists.specs.Sums.{at, total, count, bit}
 use Rattle.closeness.specs.Closeness.{distance}
-use Rattle.division.specs.Limits.{mostWeights, potLimit, weightLimit, divideRefusal}
+use Rattle.division.specs.Limits.{mostWeights, divideRefusal}
 use Rattle.division.specs.Shares.{quotient, remainder, leftover, getsCent, share, shares, Divided}
-use Rattle.division.specs.Refused.{DivideRefused}
+use Rattle.division.specs.Refused.{FineSize, DivideRefused}
 use Rattle.division.specs.declared.Division.{Division}
 use Rattle.division.proofs.Refusals.{memory-accepted, memory-refused}
 use Rattle.division.proofs.Reasons as reasons
@@ -22,7 +22,7 @@ use Rattle.division.proofs.Passing as passing
 -- of weights within their limits, and a sum above zero unless the pot is zero
 pub divide-accepts : (pot : ℕ) (weights : List ℕ) (room : ℕ)
     → (divideRefusal pot weights room ≡ 0)
-    ↔ ((length weights ≤ mostWeights) × (length weights ≤ room) × (pot ≤ potLimit) × (total weights ≤ weightLimit) × (total weights ≡ 0 → pot ≡ 0))
+    ↔ ((length weights ≤ mostWeights) × (length weights ≤ room) × FineSize pot (total weights))
 divide-accepts = passing.divide-accepts
 
 -- a division is refused with a number exactly when that is the number of the first of COUNT, ROOM, BIG, BASE that holds

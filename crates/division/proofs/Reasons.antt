@@ -15,6 +15,7 @@ use Rattle.answer.specs.Numbers.{BIG, BASE}
 use Rattle.answer.proofs.Turns.{zero-or-not}
 use Rattle.division.specs.Limits.{mostWeights, potLimit, weightLimit, sizeRefusal, divideRefusal}
 use Rattle.division.specs.Refused.{
+  FineSize,
   SizeRefused,
   by-big,
   by-base,
@@ -37,12 +38,14 @@ module _ (pot w : ℕ) where
       rw (le-ltb potLimit pot fits, le-ltb weightLimit w (omega arith), lt-ltb 0 pot some, eq-eqb w 0 none)
 
   -- sizes within their limits are not refused
-  pub fits-size : pot ≤ potLimit → w ≤ weightLimit → (w ≡ 0 → pot ≡ 0) → sizeRefusal pot w ≡ 0
+  pub fits-size : FineSize pot w → sizeRefusal pot w ≡ 0
   unfolding sizeRefusal
-  fits-size p q z =
+  fits-size fine =
       ⊎-elim
-      (λ (e : w ≡ 0). simp (le-ltb potLimit pot p, le-ltb weightLimit w q, le-ltb 0 pot (let none : pot ≡ 0 = z e in omega arith)))
-      (λ (d : w ≢ 0). simp (le-ltb potLimit pot p, le-ltb weightLimit w q, ne-eqb w 0 d, and-false (ltb 0 pot)))
+      (λ (e : w ≡ 0).
+      simp (le-ltb potLimit pot (fine .pot-fits), le-ltb weightLimit w (fine .weights-fit), le-ltb 0 pot (let none : pot ≡ 0 = fine .has-base e in omega arith)))
+      (λ (d : w ≢ 0).
+      simp (le-ltb potLimit pot (fine .pot-fits), le-ltb weightLimit w (fine .weights-fit), ne-eqb w 0 d, and-false (ltb 0 pot)))
       (zero-or-not w)
 
 module _ (pot w n : ℕ) where
@@ -58,9 +61,9 @@ module _ (pot w n : ℕ) where
       (λ (some : 0 < pot).
       ⊎-elim
       (λ (none : w ≡ 0). by-base (sym e ∙ baseless pot w p some none) p some none)
-      (λ (base : w ≢ 0). absurd (d (sym e ∙ fits-size pot w p q (λ z. absurd (base z)))))
+      (λ (base : w ≢ 0). absurd (d (sym e ∙ fits-size pot w (record { pot-fits = p; weights-fit = q; has-base = λ z. absurd (base z) }))))
       (zero-or-not w))
-      (λ (no-pot : pot ≤ 0). absurd (d (sym e ∙ fits-size pot w p q (λ z. omega arith))))
+      (λ (no-pot : pot ≤ 0). absurd (d (sym e ∙ fits-size pot w (record { pot-fits = p; weights-fit = q; has-base = λ z. omega arith }))))
       (lt-or-le 0 pot))
       (lt-or-le weightLimit w))
       (lt-or-le potLimit pot)

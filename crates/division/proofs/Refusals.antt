@@ -31,7 +31,7 @@ capped-size pot w =
 
 -- a capped sum that is not refused is the sum
 pub capped-same : (pot w : ℕ) → sizeRefusal pot (min w 10_000_000_000_001) ≡ 0 → min w 10_000_000_000_001 ≡ w
-capped-same pot w e = omega (arith, sized pot w (sym (capped-size pot w) ∙ e) .sum-fits)
+capped-same pot w e = omega (arith, sized pot w (sym (capped-size pot w) ∙ e) .weights-fit)
 
 module _ (pot : ℕ) (weights : List ℕ) (room : ℕ) where
   pub too-many : mostWeights < length weights → divideRefusal pot weights room ≡ 1

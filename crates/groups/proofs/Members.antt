@@ -10,7 +10,7 @@ use Rattle.lists.proofs.Entries.{length-listed, at-listed}
 use Rattle.lists.proofs.Members.{kept-eq}
 use Rattle.division.specs.Limits.{sizeRefusal}
 use Rattle.division.specs.Shares.{shares}
-use Rattle.division.proofs.Laws.{length-shares, shares-add-up, no-weight-no-share, shares-among, total-among, size-accepted}
+use Rattle.division.proofs.Laws.{length-shares, shares-add-up, no-weight-no-share, shares-among, total-among, sized}
 
 -- a division that is not refused, by weights that are listed
 module _ (pot n : ℕ) (weight : ℕ → ℕ) (fine : sizeRefusal pot (total (listed n weight)) ≡ 0) where
@@ -18,12 +18,12 @@ module _ (pot n : ℕ) (weight : ℕ → ℕ) (fine : sizeRefusal pot (total (li
   pub listed-add-up : sumTo n (at (shares pot (listed n weight))) ≡ pot
   listed-add-up =
       ap (λ k. sumTo k (at (shares pot (listed n weight)))) (sym (length-shares pot (listed n weight) ∙ length-listed n weight))
-      ∙ shares-add-up pot (listed n weight) (size-accepted pot (total (listed n weight)) fine .2)
+      ∙ shares-add-up pot (listed n weight) (sized pot (total (listed n weight)) fine .has-base)
 
   -- .. and a weight of 0 has no share
   pub listed-none : (i : ℕ) → i < n → weight i ≡ 0 → at (shares pot (listed n weight)) i ≡ 0
   listed-none i b e =
-      no-weight-no-share pot (listed n weight) (size-accepted pot (total (listed n weight)) fine .2) i
+      no-weight-no-share pot (listed n weight) (sized pot (total (listed n weight)) fine .has-base) i
       (rw length-listed b) (at-listed n weight i b ∙ e)
 
 -- the members of a list of weights, where nobody else has a weight, and that list with the members taken out
@@ -46,5 +46,5 @@ module _ (n : ℕ) (weight : ℕ → ℕ) (member : ℕ → Bool) (others : (i :
   pub share-alone : (pot : ℕ) → sizeRefusal pot (total (listed n weight)) ≡ 0 → (i : ℕ) → i < n → member i ≡ true
       → at (shares pot (listed n weight)) i ≡ at (shares pot (kept n member weight)) (count i member)
   share-alone pot fine i b m =
-      shares-among pot (listed n weight) member (size-accepted pot (total (listed n weight)) fine .2) others-zero i (rw length-listed b) m
+      shares-among pot (listed n weight) member (sized pot (total (listed n weight)) fine .has-base) others-zero i (rw length-listed b) m
       ∙ ap (λ l. at (shares pot l) (count i member)) taken-out

@@ -86,7 +86,7 @@ module _ (pot : ℕ) (weights amounts : List ℕ) where
         ap (λ m. numbers (take (length weights) m)) memory-is
         ∙ ap numbers (take-at (bytes (shares pot (numbers weights))) (drop (length weights) amounts) (length weights) long)
         ∙ numbers-bytes (shares pot (numbers weights))
-        (λ i b. let small = laws.share-within pot (numbers weights) (good .4) i in omega (arith, small, good .2))
+        (λ i b. let small = laws.share-within pot (numbers weights) (good .2 .has-base) i in omega (arith, small, good .2 .pot-fits))
 
     behind : drop (length weights) (hostMemory pot weights amounts) ≡ drop (length weights) amounts
     behind =

@@ -6,11 +6,10 @@ use mathlib.Core.Bool.{Bool, true, false}
 use Prim.Native.Nat.{ℕ, _*_, _≤_, _<_}
 use native.Mathlib.Omega.{arith}
 use lib.ListN.{length}
-use Rattle.lists.proofs.Ranks.{lt-or-le}
 use Rattle.answer.specs.declared.Answer.{Answer}
 use Rattle.answer.specs.Numbers.{COUNT, ROOM, MONTH, RANGE, head, charges, credits}
 use Rattle.answer.specs.Turns.{look, accepted, refuse, refusal, _then_}
-use Rattle.answer.proofs.Turns.{zero-or-not, look-fault, look-fine, then-first, then-second, refuse-none, refuse-some, refuse-number, first-none, first-all, first-at}
+use Rattle.answer.proofs.Turns.{zero-or-not, look-fault, look-fine, then-on, then-stays, refuse-none, refuse-some, refuse-number, first-none, first-all, first-at}
 use Rattle.month.specs.Limits.{mostRate}
 use Rattle.month.specs.Months.{isMonth}
 use Rattle.tables.specs.declared.Table.{Table}
@@ -18,7 +17,7 @@ use Rattle.tables.specs.declared.Table.the-variants.{Owners, Accounts}
 use Rattle.tables.specs.Shape.{number, chargeWidth, creditWidth, rows, Tables, wordsOf}
 use Rattle.tables.specs.Counts.{counted, roomFor, inTurn, Counted}
 use Rattle.tables.proofs.Tests.{Tests, at-least}
-use Rattle.tables.proofs.Stages.{Stage, passed, stopped, same-number, in-turn-stage}
+use Rattle.tables.proofs.Stages.{Stage, passed, stopped, same-number, first-broken, in-turn-stage}
 use Rattle.rows.specs.Rows.{rowOf}
 use Rattle.judgement.specs.Judgement.{headJudged, rowsJudged, judged}
 use Rattle.judgement.specs.Good.{GoodTable, Roomy, GoodFrame, GoodMonth}
@@ -35,13 +34,6 @@ look-stops : {Rule : Type 0} {fault : Bool} (n table row : ℕ) → n ≢ 0 → 
     → refuse (look fault n 0) table row ≡ refusal n table row
 look-stops {Rule} {fault} n table row d test broken =
     ap (λ k. refuse k table row) (look-fault fault n 0 (faulty test broken)) ∙ refuse-some n table row d
-
--- in turn: what is accepted leaves the answer to what follows, what is refused stays
-pub onward : {a b r : Answer} → a ≡ accepted → b ≡ r → (a then b) ≡ r
-onward {a} {b} e f = then-second a b (ap (λ (k : Answer). k .number) e) ∙ f
-
-pub stays : {a r : Answer} → r .number ≢ 0 → (b : Answer) → a ≡ r → (a then b) ≡ r
-stays {a} d b e = then-first a b (λ z. d (ap (λ (k : Answer). k .number) (sym e) ∙ z)) ∙ e
 
 -- six tables in turn, of which those with number 0 are accepted: the first that is refused has the answer
 module _ (f : Table → Answer) (zero : (table : Table) → f table .number ≡ 0 → f table ≡ accepted) where
@@ -74,14 +66,13 @@ module _ (f : Table → Answer) (zero : (table : Table) → f table .number ≡ 
       go : Looked → inTurn f ≡ r
       go (passed e all) = absurd (bad (ap (λ (k : Answer). k .number) (sym its ∙ all table)))
       go (stopped d why) =
-          ⊎-elim
-          (λ (l : number (why .0) < number table). absurd (d (ap (λ (k : Answer). k .number) (why .1 ∙ before (why .0) l))))
-          (λ (h : number table ≤ number (why .0)).
-          ⊎-elim
-          (λ (l : number table < number (why .0)). absurd (bad (ap (λ (k : Answer). k .number) (sym its ∙ why .2 table l))))
-          (λ (k : number (why .0) ≤ number table). why .1 ∙ ap f (same-number (why .0) table (omega arith)) ∙ its)
-          (lt-or-le (number table) (number (why .0))))
-          (lt-or-le (number (why .0)) (number table))
+          why .1
+          ∙ ap f
+          (same-number (why .0) table
+          (first-broken (λ k. f k ≡ accepted) (why .0) table
+          (why .2) (λ e. d (ap (λ (k : Answer). k .number) (why .1 ∙ e)))
+          before (λ e. bad (ap (λ (k : Answer). k .number) (sym its ∙ e)))))
+          ∙ its
 
 module _ (month days nonzone : ℕ) (t : Tables) (lentCharges lentCredits : ℕ) where
   -- the counts of the tables
@@ -126,7 +117,7 @@ module _ (month days nonzone : ℕ) (t : Tables) (lentCharges lentCredits : ℕ)
 
   before-head : ((table : Table) → Counted t table) → Roomy t lentCharges lentCredits → (inTurn countOf then chargesRoom then creditsRoom) ≡ accepted
   before-head all roomy =
-      onward (onward (counts-pass all) (room-passes charges _ lentCharges (roomy .charges-fit))) (room-passes credits _ lentCredits (roomy .credits-fit))
+      then-on (then-on (counts-pass all) (room-passes charges _ lentCharges (roomy .charges-fit))) (room-passes credits _ lentCredits (roomy .credits-fit))
 
   -- the head
   no-month : isMonth month days ≡ false → headJudged month days nonzone ≡ refusal MONTH head 0
@@ -178,17 +169,17 @@ module _ (month days nonzone : ℕ) (t : Tables) (lentCharges lentCredits : ℕ)
     where
       go : Why a → a .number ≢ 0 → judged month days nonzone t lentCharges lentCredits ≡ a
       go (by-count table e before short) d =
-          stays d allRows (stays d headRead (stays d creditsRoom (stays d chargesRoom
+          then-stays d allRows (then-stays d headRead (then-stays d creditsRoom (then-stays d chargesRoom
           (table-stops countOf count-zero table a (λ earlier l. count-passes earlier (before earlier l)) (count-stops table short ∙ sym e) d))))
       go (by-charges e all short) d =
-          stays d allRows (stays d headRead (stays d creditsRoom (onward (counts-pass all) (room-stops charges _ lentCharges short ∙ sym e))))
+          then-stays d allRows (then-stays d headRead (then-stays d creditsRoom (then-on (counts-pass all) (room-stops charges _ lentCharges short ∙ sym e))))
       go (by-credits e all fit short) d =
-          stays d allRows
-          (stays d headRead (onward (onward (counts-pass all) (room-passes charges _ lentCharges fit)) (room-stops credits _ lentCredits short ∙ sym e)))
-      go (by-month e all roomy bad) d = stays d allRows (onward (before-head all roomy) (no-month bad ∙ sym e))
-      go (by-nonzone e all roomy known high) d = stays d allRows (onward (before-head all roomy) (no-rate known high ∙ sym e))
+          then-stays d allRows
+          (then-stays d headRead (then-on (then-on (counts-pass all) (room-passes charges _ lentCharges fit)) (room-stops credits _ lentCredits short ∙ sym e)))
+      go (by-month e all roomy bad) d = then-stays d allRows (then-on (before-head all roomy) (no-month bad ∙ sym e))
+      go (by-nonzone e all roomy known high) d = then-stays d allRows (then-on (before-head all roomy) (no-rate known high ∙ sym e))
       go (by-row table i n e why) d =
-          onward (onward (before-head (why .frame .counted) (why .frame .roomy)) (head-passes (why .frame)))
+          then-on (then-on (before-head (why .frame .counted) (why .frame .roomy)) (head-passes (why .frame)))
           (table-stops (rowsJudged days t) rows-zero table a (λ earlier l. rows-pass earlier (why .earlier-tables earlier l))
           (row-stops table i n why (broken-number days t table i n (why .broken)) ∙ sym e) d)
 
@@ -201,5 +192,5 @@ module _ (month days nonzone : ℕ) (t : Tables) (lentCharges lentCredits : ℕ)
   pub good-unrefused : GoodMonth month days nonzone t lentCharges lentCredits → judged month days nonzone t lentCharges lentCredits ≡ accepted
   unfolding judged
   good-unrefused good =
-      onward (onward (before-head (good .frame .counted) (good .frame .roomy)) (head-passes (good .frame)))
+      then-on (then-on (before-head (good .frame .counted) (good .frame .roomy)) (head-passes (good .frame)))
       (tables-pass (rowsJudged days t) rows-zero (λ table. rows-pass table (good .tables table)))

@@ -9,7 +9,6 @@ use native.Mathlib.Nat.{le-trans, le-of-eq, mul-le-mul-right}
 use native.Mathlib.Omega.{arith}
 use lib.ListN.{length, drop}
 use borrow.Author.Tests.{eq-eqb, ne-eqb}
-use Rattle.lists.proofs.Ranks.{lt-or-le}
 use Rattle.answer.specs.declared.Answer.{Answer}
 use Rattle.answer.specs.Numbers.{COUNT, ROOM, TEXT}
 use Rattle.answer.specs.Turns.{accepted, refusal}
@@ -18,7 +17,7 @@ use Rattle.tables.specs.declared.Table.the-variants.{Zones, Owners, Units, Acco
 use Rattle.tables.specs.Shape.{number, width, limit, Tables, wordsOf}
 use Rattle.tables.specs.Counts.{roomFor}
 use Rattle.tables.proofs.Tests.{at-least}
-use Rattle.tables.proofs.Stages.{Stage, passed, stopped, look-stage, in-turn-stage}
+use Rattle.tables.proofs.Stages.{Stage, passed, stopped, first-broken, look-stage, in-turn-stage}
 use Rattle.text.specs.Places.{stored}
 use Rattle.text.proofs.Stores.{stored-is}
 use Rattle.monthfile.specs.declared.Reading.{Reading}
@@ -68,19 +67,6 @@ table-fits (a ∷ b ∷ c ∷ d ∷ e ∷ f ∷ g ∷ more) h table = absurd (h 
 -- rows within the limits fit in a table of full size
 fits-front : (table : Table) (t : Rows) → Fits (kindOf table) t → {lent : ℕ} → limit table * width table ≤ lent → length (t .words) ≤ lent
 fits-front table t f full = le-trans (le-of-eq (f .whole)) (le-trans (mul-le-mul-right (width table) (f .few)) full)
-
--- there is one first table that is not so
-pub one-first : (G : Table → Type 0) (x y : Table) → ((earlier : Table) → number earlier < number x → G earlier) → ¬ G x
-    → ((earlier : Table) → number earlier < number y → G earlier) → ¬ G y → number x ≡ number y
-one-first G x y before bad before′ bad′ =
-    ⊎-elim
-    (λ (l : number x < number y). absurd (bad (before′ x l)))
-    (λ (m : number y ≤ number x).
-    ⊎-elim
-    (λ (l : number y < number x). absurd (bad′ (before y l)))
-    (λ (n : number x ≤ number y). (let e : number x ≡ number y = omega arith in e))
-    (lt-or-le (number y) (number x)))
-    (lt-or-le (number x) (number y))
 
 -- the look at ROOM, and the text behind it
 module _ (text : List ℕ) (lent : Tables) where
@@ -162,7 +148,7 @@ module _ (text : List ℕ) (lent : Tables) where
       go (passed q full) = absurd (short (full table))
       go (stopped d why) =
           outcome-short d
-          ∙ ap refused (why .1 ∙ ap (λ n. refusal ROOM n 0) (one-first (Full lent) (why .0) table (why .2) (why .3) before short) ∙ sym e)
+          ∙ ap refused (why .1 ∙ ap (λ n. refusal ROOM n 0) (first-broken (Full lent) (why .0) table (why .2) (why .3) before short) ∙ sym e)
   outcome-why a (by-text at full) = outcome-full full ∙ misfit-refused monthForm month-sound text a at
   outcome-why a (by-count table e why full) = outcome-full full ∙ full-table table why ∙ ap refused (sym e)
 

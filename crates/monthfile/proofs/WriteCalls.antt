@@ -14,14 +14,14 @@ use Rattle.tables.specs.declared.Table.{Table}
 use Rattle.tables.specs.Shape.{number, width, limit, rows, Tables, wordsOf}
 use Rattle.tables.specs.Counts.{Counted, counted, roomFor}
 use Rattle.tables.proofs.Tests.{reworded, both, equal, at-least}
-use Rattle.tables.proofs.Stages.{Stage, passed, stopped, passed-on, then-stage, look-stage, in-turn-stage}
+use Rattle.tables.proofs.Stages.{Stage, passed, stopped, passed-on, then-stage, look-stage, in-turn-stage, first-broken}
 use Rattle.text.specs.Places.{stored}
 use Rattle.text.proofs.Stores.{stored-none}
 use Rattle.monthfile.specs.declared.Written.{Written}
 use Rattle.monthfile.specs.Calls.{monthText, atFront, writeRefusal, textWritten, Writes}
 use Rattle.monthfile.specs.Refused.{WriteRefused, by-bad-table, by-short-room}
 use Rattle.monthfile.proofs.Pieces.{none-written, all-written}
-use Rattle.monthfile.proofs.ReadCalls.{one-first, stored-front}
+use Rattle.monthfile.proofs.ReadCalls.{stored-front}
 
 -- the looks at COUNT and ROOM, and the text that is written
 module _ (month days nonzone : ℕ) (t : Tables) (lent : List ℕ) where
@@ -65,7 +65,7 @@ module _ (month days nonzone : ℕ) (t : Tables) (lent : List ℕ) where
       where
         same : (b : Answer) → WriteRefused month days nonzone t (length lent) b → WriteRefused month days nonzone t (length lent) a → b ≡ a
         same b (by-bad-table x e before bad) (by-bad-table y q before′ bad′) =
-            e ∙ ap (λ n. refusal COUNT n 0) (one-first (Counted t) x y before bad before′ bad′) ∙ sym q
+            e ∙ ap (λ n. refusal COUNT n 0) (first-broken (Counted t) x y before bad before′ bad′) ∙ sym q
         same b (by-bad-table x e before bad) (by-short-room q all short) = absurd (bad (all x))
         same b (by-short-room e all short) (by-bad-table y q before bad) = absurd (bad (all y))
         same b (by-short-room e all short) (by-short-room q all′ short′) = e ∙ sym q

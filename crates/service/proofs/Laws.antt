@@ -17,7 +17,7 @@ use Rattle.lists.proofs.Entries.{total-listed, listed-at}
 use Rattle.answer.specs.Numbers.{BIG, BASE}
 use Rattle.division.specs.Limits.{potLimit, weightLimit}
 use Rattle.division.specs.Shares.{shares}
-use Rattle.division.proofs.Laws.{length-shares, shares-add-up, no-weight-no-share, size-accepted, never-big, never-base, share-fits}
+use Rattle.division.proofs.Laws.{length-shares, shares-add-up, no-weight-no-share, sized, never-big, never-base, share-fits}
 use Rattle.groups.specs.Groups.{among, weightsIn, isMember, refusal}
 use Rattle.groups.proofs.Members.{listed-add-up, listed-none}
 use Rattle.service.specs.Service.{Service, zoneUse, nonzoneUse, uses, zoneSide, nonzoneSide, zoneSides, nonzonePot, nonzoneParts, nonzoneShare}
@@ -39,7 +39,7 @@ split-by-uses s z =
 module _ (s : Service) (z : ℕ) (fine : splitRefusal s z ≡ 0) where
   base : total (uses s) ≡ 0 → s .pot z ≡ 0
   unfolding splitRefusal
-  base = size-accepted (s .pot z) (total (uses s)) fine .2
+  base = sized (s .pot z) (total (uses s)) fine .has-base
 
   -- the two sides are the pot
   pub sides-add-up : zoneSide s z + nonzoneSide s z ≡ s .pot z
@@ -70,7 +70,7 @@ module _ (s : Service) (z : ℕ) (fine : splitRefusal s z ≡ 0) where
       le-trans (le-of-eq (total-listed (s .accounts) _))
       (sum-le (s .accounts) (λ a. when (isMember (zoneSides s) z a) (s .zonePart a)) (s .zonePart)
       (λ a b. when-le (isMember (zoneSides s) z a) (s .zonePart a))) in
-      omega (arith, uses-add-up s, size-accepted (s .pot z) (total (uses s)) fine .1)
+      omega (arith, uses-add-up s, sized (s .pot z) (total (uses s)) fine .weights-fit)
 
   -- after a split that is fine, a share is fine or BASE
   pub share-fine-or-base : (shareRefusal s z ≡ 0) ⊎ (shareRefusal s z ≡ BASE)

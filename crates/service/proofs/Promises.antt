@@ -16,7 +16,9 @@ use Rattle.lists.proofs.Ranks.{lt-or-le}
 use Rattle.answer.specs.declared.Answer.{Answer}
 use Rattle.answer.specs.Numbers.{BIG, BASE}
 use Rattle.answer.specs.Turns.{accepted}
+use Rattle.division.specs.Refused.{FineSize}
 use Rattle.division.specs.Shares.{shares}
+use Rattle.division.proofs.Laws.{size-exactly}
 use Rattle.groups.specs.Groups.{weightsIn, refusal, alone, amounts}
 use Rattle.groups.proofs.Members.{share-alone}
 use Rattle.groups.proofs.Laws.{pots-divided, members-have-all, others-none, weightless-none-at-all, from-own-group, groupless-none, amount-alone}
@@ -33,7 +35,7 @@ use Rattle.service.specs.Service.{
   nonzoneShare,
   serviceCharge,
 }
-use Rattle.service.specs.Turn.{splitRefusal, shareRefusal, nonzoneRefusal, serviceInTurn, FineSize, Accepted, RefusedAt}
+use Rattle.service.specs.Turn.{splitRefusal, shareRefusal, nonzoneRefusal, serviceInTurn, Accepted, RefusedAt}
 use Rattle.service.proofs.Laws as laws
 use Rattle.service.proofs.Turns as turns
 
@@ -51,15 +53,15 @@ refused-exactly = turns.refused-exactly
 -- a split, a share and the non-zone pot's division are fine exactly where pot and weights are within their limits and a pot has a base
 pub split-fine-exactly : (s : Service) (z : ℕ) → (splitRefusal s z ≡ 0) ↔ FineSize (s .pot z) (total (uses s))
 unfolding splitRefusal
-split-fine-exactly s z = turns.size-exactly (s .pot z) (total (uses s))
+split-fine-exactly s z = size-exactly (s .pot z) (total (uses s))
 
 pub share-fine-exactly : (s : Service) (z : ℕ) → (shareRefusal s z ≡ 0) ↔ FineSize (zoneSide s z) (total (weightsIn (zoneSides s) z))
 unfolding shareRefusal refusal
-share-fine-exactly s z = turns.size-exactly (zoneSide s z) (total (weightsIn (zoneSides s) z))
+share-fine-exactly s z = size-exactly (zoneSide s z) (total (weightsIn (zoneSides s) z))
 
 pub nonzone-fine-exactly : (s : Service) → (nonzoneRefusal s ≡ 0) ↔ FineSize (nonzonePot s) (total (nonzoneParts s))
 unfolding nonzoneRefusal
-nonzone-fine-exactly s = turns.size-exactly (nonzonePot s) (total (nonzoneParts s))
+nonzone-fine-exactly s = size-exactly (nonzonePot s) (total (nonzoneParts s))
 
 -- the two sides of a zone's pot are its division by all zone use and all non-zone use ..
 pub split-by-uses : (s : Service) (z : ℕ)

@@ -10,9 +10,9 @@ use Rattle.answer.specs.Numbers.{BIG, BASE, divisions}
 use Rattle.answer.specs.Turns.{accepted, refuse, turns}
 use Rattle.answer.specs.Turns as answer
 use Rattle.answer.proofs.Turns.{zero-or-not, then-first, then-second, then-none, refuse-none, refuse-some, refuse-number, turns-none, turns-all, turns-stop, turns-refused, StoppedAt}
-use Rattle.division.specs.Limits.{potLimit, weightLimit, sizeRefusal}
+use Rattle.division.specs.Limits.{potLimit, weightLimit}
 use Rattle.division.specs.Refused.{SizeRefused, by-big, by-base}
-use Rattle.division.proofs.Laws.{size-why, why-size, fits-size, size-accepted}
+use Rattle.division.proofs.Laws.{size-why, why-size}
 use Rattle.groups.specs.Groups.{weightsIn, refusal}
 use Rattle.service.specs.Service.{Service, uses, zoneSide, zoneSides, nonzonePot, nonzoneParts}
 use Rattle.service.specs.Turn.{
@@ -24,7 +24,6 @@ use Rattle.service.specs.Turn.{
   nonzonePlace,
   zoneTurn,
   serviceInTurn,
-  FineSize,
   Accepted,
   FineBefore,
   RefusedAt,
@@ -43,12 +42,6 @@ only-big (by-base e fits some none) q = absurd (omega arith)
 only-base : {pot w n : ℕ} → SizeRefused pot w n → n ≡ BASE → (0 < pot) × (w ≡ 0)
 only-base (by-big e over) q = absurd (omega arith)
 only-base (by-base e fits some none) q = (some, none)
-
-pub size-exactly : (pot w : ℕ) → (sizeRefusal pot w ≡ 0) ↔ FineSize pot w
-size-exactly pot w = (
-  (λ e. let known = size-accepted pot w e in record { pot-fits = known .0; weights-fit = known .1; has-base = known .2 }),
-  λ fine. fits-size pot w (fine .pot-fits) (fine .weights-fit) (fine .has-base),
-)
 
 module _ (s : Service) where
   split-why : (z : ℕ) → splitRefusal s z ≢ 0 → SizeRefused (s .pot z) (total (uses s)) (splitRefusal s z)

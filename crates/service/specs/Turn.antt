@@ -3,7 +3,7 @@
 use mathlib.Core.Path.{_≡_}
 use mathlib.Core.Logic.{_⊎_}
 use mathlib.Core.List.{List}
-use Prim.Native.Nat.{ℕ, _+_, _*_, _≤_, _<_}
+use Prim.Native.Nat.{ℕ, _+_, _*_, _<_}
 use Rattle.lists.specs.Sums.{total}
 use Rattle.answer.specs.declared.Answer.{Answer}
 use Rattle.answer.specs.Numbers.{BIG, BASE, divisions}
@@ -52,12 +52,6 @@ serviceInTurn s place = turns (zoneTurn s place) (s .zones) then refuse (nonzone
 -- What `charge` answers and writes: each account's charge.
 abbrev pub Served : Service → ℕ → List ℕ → List ℕ → Answer → Type 0
 Served s place before after r = Written (s .accounts) (serviceCharge s) (serviceInTurn s place) before after r
-
--- What a division is that is fine: the pot "at most 10^11", the weights' sum "at most 10^13", and no pot where that is zero.
-pub record FineSize (pot w : ℕ) : Type 0 where
-  pub pot-fits : pot ≤ potLimit
-  pub weights-fit : w ≤ weightLimit
-  pub has-base : w ≡ 0 → pot ≡ 0
 
 -- Both divisions of every zone before zone z are fine.
 pub record FineBefore (s : Service) (z : ℕ) : Type 0 where

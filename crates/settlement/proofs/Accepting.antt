@@ -7,7 +7,7 @@ use native.Mathlib.Nat.{zero-add}
 use Rattle.answer.specs.declared.Answer.{Answer}
 use Rattle.answer.specs.Numbers.{divisions}
 use Rattle.answer.specs.Turns.{accepted, refuse}
-use Rattle.answer.proofs.Turns.{zero-or-not, refuse-none}
+use Rattle.answer.proofs.Turns.{zero-or-not, refuse-none, then-on}
 use Rattle.division.proofs.Laws.{size-why}
 use Rattle.groups.specs.Groups as groups
 use Rattle.groups.proofs.Laws.{accepted-all, all-accepted, RefusedGroup, refused-at}
@@ -17,7 +17,7 @@ use Rattle.tables.specs.Limits.{blackStart, reactive}
 use Rattle.tables.proofs.Stages.{Stage, passed, stopped, passed-on, then-stage, refuse-stage}
 use Rattle.judgement.specs.Judgement.{judged}
 use Rattle.judgement.proofs.Judging.{judged-good, judged-why}
-use Rattle.judgement.proofs.Reasons.{onward, good-unrefused}
+use Rattle.judgement.proofs.Reasons.{good-unrefused}
 use Rattle.pool.specs.Input.{Input, zoneCount}
 use Rattle.pool.specs.Network.{networkPots, nonzoneRefusal}
 use Rattle.pool.specs.Services.{serviceIn}
@@ -36,7 +36,7 @@ use Rattle.settlement.specs.Refused.{Refused, by-tables, at-zone, at-non
 pub network-accepts : (m : Input) → NetworkFine m → networkInTurn m ≡ accepted
 unfolding networkInTurn
 network-accepts m fine =
-    onward (all-accepted (networkPots m) networkPlace (fine .zones-fine))
+    then-on (all-accepted (networkPots m) networkPlace (fine .zones-fine))
     (refuse-none (nonzoneRefusal m) divisions (nonzonePlace (zoneCount m)) (fine .nonzone-fine))
 
 module _ (m : Input) (lentCharges lentCredits : ℕ) where
@@ -126,8 +126,8 @@ module _ (m : Input) (lentCharges lentCredits : ℕ) where
   pub accepted-answer : Accepted m lentCharges lentCredits → answerOf m lentCharges lentCredits ≡ accepted
   unfolding answerOf divisionsInTurn
   accepted-answer a =
-      onward (tables-accept (a .good))
-      (onward
-      (onward (network-accepts m (a .network-fine))
+      then-on (tables-accept (a .good))
+      (then-on
+      (then-on (network-accepts m (a .network-fine))
       (fine-accepted (serviceIn m blackStart) (blackStartPlace (zoneCount m)) (a .service-fine blackStart (inl refl))))
       (fine-accepted (serviceIn m reactive) (reactivePlace (zoneCount m)) (a .service-fine reactive (inr refl))))

@@ -21,7 +21,8 @@ use Rattle.groups.proofs.Laws.{pots-divided, pot-divided, members-have-all, amo
 use Rattle.service.specs.Service.{zoneSide, nonzoneSide, nonzonePot, zoneShare, nonzoneShare}
 use Rattle.service.specs.Turn.{splitRefusal, shareRefusal}
 use Rattle.service.specs.Turn as turn
-use Rattle.service.proofs.Turns.{size-exactly}
+use Rattle.division.specs.Refused.{FineSize}
+use Rattle.division.proofs.Laws.{size-exactly}
 use Rattle.service.proofs.Promises as service
 use Rattle.tables.specs.Shape.{chargeWidth, creditWidth, Tables}
 use Rattle.tables.specs.Columns.{zoneNumber, ownerNumber, ownerZone, ownerRequirement, unitOwner, accountZone, zoneRate, accountNumber, loadAccount, loadDay, loadContribution, reservationAccount, reservationReserved, reservationCurtailed}
@@ -57,11 +58,11 @@ module _ (m : Input) (lentCharges lentCredits : ℕ) where
 
 -- a network division is fine exactly where pot and weights are within their limits and a pot has a base
 pub zone-fine-exactly : (m : Input) (z : ℕ)
-    → (refusal (networkPots m) z ≡ 0) ↔ turn.FineSize (chargesIn m (zoneNumber (m .tables .zones) z)) (total (weightsIn (networkPots m) z))
+    → (refusal (networkPots m) z ≡ 0) ↔ FineSize (chargesIn m (zoneNumber (m .tables .zones) z)) (total (weightsIn (networkPots m) z))
 unfolding refusal
 zone-fine-exactly m z = size-exactly (chargesIn m (zoneNumber (m .tables .zones) z)) (total (weightsIn (networkPots m) z))
 
-pub nonzone-fine-exactly : (m : Input) → (nonzoneRefusal m ≡ 0) ↔ turn.FineSize (chargesIn m 0) (total (requirements m))
+pub nonzone-fine-exactly : (m : Input) → (nonzoneRefusal m ≡ 0) ↔ FineSize (chargesIn m 0) (total (requirements m))
 unfolding nonzoneRefusal
 nonzone-fine-exactly m = size-exactly (chargesIn m 0) (total (requirements m))
 

@@ -16,7 +16,7 @@ use Rattle.lists.proofs.Entries.{at-put, put-ahead}
 use Rattle.answer.specs.declared.Answer.{Answer}
 use Rattle.answer.specs.Numbers.{divisions}
 use Rattle.answer.specs.Turns.{refuse, refusal}
-use Rattle.answer.proofs.Turns.{refuse-none, refuse-some, refuse-number, turns-stop}
+use Rattle.answer.proofs.Turns.{refuse-none, refuse-some, refuse-number, turns-stop, then-on, then-stays}
 use Rattle.division.specs.Refused.{SizeRefused}
 use Rattle.division.proofs.Laws.{why-size}
 use Rattle.groups.specs.Groups as groups
@@ -26,7 +26,6 @@ use Rattle.service.proofs.Turns.{fine-accepted, refused-exactly}
 use Rattle.tables.specs.Shape.{chargeWidth, creditWidth}
 use Rattle.tables.specs.Columns.{zoneNumber}
 use Rattle.tables.specs.Limits.{blackStart, reactive}
-use Rattle.judgement.proofs.Reasons.{onward, stays}
 use Rattle.judgement.proofs.Reasons as judgement
 use Rattle.pool.specs.Input.{Input, zoneCount, ownerCount, accountCount}
 use Rattle.pool.specs.Network.{chargesIn, networkPots, requirements, nonzoneRefusal}
@@ -84,27 +83,27 @@ module _ (m : Input) (lentCharges lentCredits : ℕ) where
     where
       go : Refused m lentCharges lentCredits r → r .number ≢ 0 → answerOf m lentCharges lentCredits ≡ r
       go (by-tables w) d =
-          stays d (divisionsInTurn m) (judgement.why-judged (m .month) (m .days) (m .nonzone) (m .tables) lentCharges lentCredits r w)
+          then-stays d (divisionsInTurn m) (judgement.why-judged (m .month) (m .days) (m .nonzone) (m .tables) lentCharges lentCredits r w)
       go (at-zone good z n b before w e) d =
-          onward (tables-accept m lentCharges lentCredits good)
-          (stays d reactive-answer
-          (stays d black-start-answer
-          (stays d nonzone-answer (zone-stops z n b before (zone-is z n w .0) (zone-is z n w .1) ∙ sym e))))
+          then-on (tables-accept m lentCharges lentCredits good)
+          (then-stays d reactive-answer
+          (then-stays d black-start-answer
+          (then-stays d nonzone-answer (zone-stops z n b before (zone-is z n w .0) (zone-is z n w .1) ∙ sym e))))
       go (at-nonzone good n zones w e) d =
-          onward (tables-accept m lentCharges lentCredits good)
-          (stays d reactive-answer
-          (stays d black-start-answer
-          (onward (all-accepted (networkPots m) networkPlace zones)
+          then-on (tables-accept m lentCharges lentCredits good)
+          (then-stays d reactive-answer
+          (then-stays d black-start-answer
+          (then-on (all-accepted (networkPots m) networkPlace zones)
           (ap (λ k. refuse k divisions (zoneCount m)) (nonzone-is n w .0) ∙ refuse-some n divisions (zoneCount m) (nonzone-is n w .1) ∙ sym e))))
       go (in-black-start good network w) d =
-          onward (tables-accept m lentCharges lentCredits good)
-          (stays d reactive-answer
-          (onward (network-accepts m network)
+          then-on (tables-accept m lentCharges lentCredits good)
+          (then-stays d reactive-answer
+          (then-on (network-accepts m network)
           (refused-exactly (serviceIn m blackStart) (blackStartPlace (zoneCount m)) r .0 w .0)))
       go (in-reactive good network first w) d =
-          onward (tables-accept m lentCharges lentCredits good)
-          (onward
-          (onward (network-accepts m network) (fine-accepted (serviceIn m blackStart) (blackStartPlace (zoneCount m)) first))
+          then-on (tables-accept m lentCharges lentCredits good)
+          (then-on
+          (then-on (network-accepts m network) (fine-accepted (serviceIn m blackStart) (blackStartPlace (zoneCount m)) first))
           (refused-exactly (serviceIn m reactive) (reactivePlace (zoneCount m)) r .0 w .0))
 
   pub answer-exactly : (r : Answer) → Refused m lentCharges lentCredits r ↔ ((answerOf m lentCharges lentCredits ≡ r) × (r .number ≢ 0))

@@ -3,9 +3,10 @@
 use mathlib.Core.Path.{_≡_, refl, sym, ap, subst, _∙_}
 use mathlib.Core.Logic.{⊎-elim, _≢_}
 use mathlib.Core.Bool.{Bool, true, false}
-use Prim.Native.Nat.{ℕ, suc, _-_, _<_}
+use Prim.Native.Nat.{ℕ, suc, _-_, _≤_, _<_}
 use native.Mathlib.Omega.{arith}
 use Rattle.lists.proofs.Sums.{last-or-below}
+use Rattle.lists.proofs.Ranks.{lt-or-le}
 use Rattle.answer.specs.declared.Answer.{Answer}
 use Rattle.answer.specs.Turns.{look, accepted, refuse, _then_, refusal}
 use Rattle.answer.proofs.Turns.{zero-or-not, then-first, then-second, refuse-none, refuse-some, refuse-number}
@@ -55,6 +56,19 @@ at-number Reservations = refl
 
 pub same-number : (a b : Table) → number a ≡ number b → a ≡ b
 same-number a b e = sym (at-number a) ∙ ap (λ n. tableAt (n - 1)) e ∙ at-number b
+
+-- there is one first table that breaks a rule
+pub first-broken : (G : Table → Type 0) (x y : Table) → ((earlier : Table) → number earlier < number x → G earlier) → ¬ G x
+    → ((earlier : Table) → number earlier < number y → G earlier) → ¬ G y → number x ≡ number y
+first-broken G x y before bad before′ bad′ =
+    ⊎-elim
+    (λ (l : number x < number y). absurd (bad (before′ x l)))
+    (λ (m : number y ≤ number x).
+    ⊎-elim
+    (λ (l : number y < number x). absurd (bad′ (before y l)))
+    (λ (n : number x ≤ number y). (let e : number x ≡ number y = omega arith in e))
+    (lt-or-le (number y) (number x)))
+    (lt-or-le (number x) (number y))
 
 from-one : (table : Table) → 0 < number table
 from-one Zones = omega arith

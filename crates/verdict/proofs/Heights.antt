@@ -19,7 +19,7 @@ use Rattle.lists.proofs.Ranks.{lt-or-le}
 use Rattle.answer.proofs.Turns.{zero-or-not}
 use Rattle.closeness.specs.Closeness.{level}
 use Rattle.verdict.specs.Steps.{height}
-use Rattle.division.proofs.Laws.{Sized}
+use Rattle.division.specs.Refused.{FineSize}
 
 -- the largest of f 0, .. f (n − 1), 0 where there is none, and the smallest, at most c
 unfoldable pub most : ℕ → (ℕ → ℕ) → ℕ
@@ -130,7 +130,7 @@ same-truth true t f g = sym (f refl)
 same-truth false true f g = g refl
 same-truth false false f g = refl
 
-module _ (pot : ℕ) (weights amounts : List ℕ) (size : Sized pot (total weights)) (same : length weights ≡ length amounts) (adds-up : total amounts ≡ pot) where
+module _ (pot : ℕ) (weights amounts : List ℕ) (size : FineSize pot (total weights)) (same : length weights ≡ length amounts) (adds-up : total amounts ≡ pot) where
   over-is : (i : ℕ) → height pot weights (total weights) amounts i ≡ over (total weights) (total weights * at amounts i) (pot * at weights i)
   over-is i = omega (arith, mul-comm pot (at weights i))
 
@@ -171,7 +171,7 @@ module _ (pot : ℕ) (weights amounts : List ℕ) (size : Sized pot (total weigh
       from-spread h i j bi bj =
           ⊎-elim
           (λ (z : total weights ≡ 0).
-          let none : pot * at weights j ≡ 0 * at weights j = ap (λ p. p * at weights j) (size .zero-sum z) in
+          let none : pot * at weights j ≡ 0 * at weights j = ap (λ p. p * at weights j) (size .has-base z) in
           let no-sum : total weights * at amounts i ≡ 0 * at amounts i = ap (λ w. w * at amounts i) z in
           omega arith)
           (λ (d : total weights ≢ 0).

@@ -15,7 +15,8 @@ use Rattle.lists.proofs.Ranks.{lt-or-le, true-or-false}
 use Rattle.answer.proofs.Turns.{look-none, zero-or-not}
 use Rattle.closeness.specs.Closeness.{distance, Closest, level}
 use Rattle.closeness.proofs.Promises.{level-closest, closest-level, level-within-a-cent}
-use Rattle.division.specs.Limits.{mostWeights, potLimit, weightLimit, divideRefusal}
+use Rattle.division.specs.Limits.{mostWeights, divideRefusal}
+use Rattle.division.specs.Refused.{FineSize}
 use Rattle.division.specs.Shares.{shares}
 use Rattle.division.proofs.Laws as division
 use Rattle.verdict.specs.Check.{checkRefusal, passes, verdict}
@@ -24,20 +25,17 @@ use Rattle.verdict.proofs.Verdicts as verdicts
 
 pub check-accepts : (pot : ℕ) (weights amounts : List ℕ)
     → (checkRefusal pot weights amounts ≡ 0)
-    ↔ ((length weights ≤ mostWeights) × (length weights ≡ length amounts) × (pot ≤ potLimit) × (total weights ≤ weightLimit) × (total weights ≡ 0 → pot ≡ 0))
+    ↔ ((length weights ≤ mostWeights) × (length weights ≡ length amounts) × FineSize pot (total weights))
 unfolding checkRefusal
 check-accepts pot weights amounts = (
   (λ e.
       let counts = look-none (ltb mostWeights (length weights) || not (eqb (length weights) (length amounts))) 1 _ (λ q. omega arith) e in
-      let fine = neither (ltb mostWeights (length weights)) (not (eqb (length weights) (length amounts))) (counts .0) in
-      let size = division.size-accepted pot (total weights) (counts .1) in (
+      let fine = neither (ltb mostWeights (length weights)) (not (eqb (length weights) (length amounts))) (counts .0) in (
         ltb-false mostWeights (length weights) (fine .0),
         eqb-true (length weights) (length amounts) (not-false (eqb (length weights) (length amounts)) (fine .1)),
-        size .0,
-        size .1,
-        size .2,
+        division.sized pot (total weights) (counts .1),
       )),
-  λ g. verdicts.by-size pot weights amounts (g .0) (sym (g .1)) ∙ division.fits-size pot (total weights) (g .2) (g .3) (g .4),
+  λ g. verdicts.by-size pot weights amounts (g .0) (sym (g .1)) ∙ division.fits-size pot (total weights) (g .2),
 )
 
 -- yes exactly where the amounts pass
@@ -106,10 +104,10 @@ pub divisions-pass : (pot : ℕ) (weights : List ℕ) (room : ℕ) → divideRef
 divisions-pass pot weights room e =
     let good = division.divide-accepted pot weights room e in
     passes-yes pot weights (shares pot weights)
-    (check-accepts pot weights (shares pot weights) .1 (good .0, sym (division.length-shares pot weights), good .2, good .3, good .4))
-    (verdicts.right-sum pot weights (shares pot weights) (division.shares-add-up pot weights (good .4))
+    (check-accepts pot weights (shares pot weights) .1 (good .0, sym (division.length-shares pot weights), good .2))
+    (verdicts.right-sum pot weights (shares pot weights) (division.shares-add-up pot weights (good .2 .has-base))
     ∙ ⊎-elim
-    (λ (z : total weights ≡ 0). level-of-none pot weights (shares pot weights) z (good .4 z))
+    (λ (z : total weights ≡ 0). level-of-none pot weights (shares pot weights) z (good .2 .has-base z))
     (λ (d : total weights ≢ 0). division.shares-level pot weights (omega (arith, d)))
     (zero-or-not (total weights)))
 

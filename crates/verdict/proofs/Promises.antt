@@ -8,7 +8,8 @@ use Prim.Native.Nat.{ℕ, _≤_, _<_}
 use lib.ListN.{length}
 use Rattle.lists.specs.Sums.{at, total}
 use Rattle.closeness.specs.Closeness.{distance, Closest}
-use Rattle.division.specs.Limits.{mostWeights, potLimit, weightLimit, divideRefusal}
+use Rattle.division.specs.Limits.{mostWeights, divideRefusal}
+use Rattle.division.specs.Refused.{FineSize}
 use Rattle.division.specs.Shares.{shares}
 use Rattle.verdict.specs.Check.{checkRefusal, verdict, answerOf}
 use Rattle.verdict.specs.Refused.{CheckRefused}
@@ -21,7 +22,7 @@ use Rattle.verdict.proofs.Passing as passing
 -- within their limits, and a sum above zero unless the pot is zero
 pub check-accepts : (pot : ℕ) (weights amounts : List ℕ)
     → (checkRefusal pot weights amounts ≡ 0)
-    ↔ ((length weights ≤ mostWeights) × (length weights ≡ length amounts) × (pot ≤ potLimit) × (total weights ≤ weightLimit) × (total weights ≡ 0 → pot ≡ 0))
+    ↔ ((length weights ≤ mostWeights) × (length weights ≡ length amounts) × FineSize pot (total weights))
 check-accepts = passing.check-accepts
 
 -- a check is refused with a number exactly when that is the number of the first of COUNT, BIG, BASE that holds

@@ -12,12 +12,13 @@ use Rattle.division.specs.Limits.{sizeRefusal}
 use Rattle.division.specs.Steps.{Base}
 use Rattle.division.proofs.Bits.{bit-of}
 use Rattle.division.proofs.Bounds.{given-within}
-use Rattle.division.proofs.Handed.{Sized, sized, base-of, placed-long, ready, shared-out}
+use Rattle.division.specs.Refused.{FineSize}
+use Rattle.division.proofs.Handed.{sized, base-of, placed-long, ready, shared-out}
 use Rattle.division.proofs.cents.share_out.Statement.{statement}
 use Rattle.division.proofs.cents.share_out.Tie as tie
 
 -- what is known at entry: the sum is the weights', and the pot goes with it
-size-of : (c : tie.Start) → Sized (c .args .pot) (total (c .args .weights .now))
+size-of : (c : tie.Start) → FineSize (c .args .pot) (total (c .args .weights .now))
 size-of c = sized (c .args .pot) (total (c .args .weights .now)) (subst (λ w. sizeRefusal (c .args .pot) w ≡ 0) (c .pre .0 .0) (c .pre .0 .1))
 
 whole-of : (c : tie.Start)
@@ -33,7 +34,7 @@ cast-whole c = tt
 add-whole : tie.Need-add-whole
 add-whole c =
     let start = c .before .before in
-    omega (arith, size-of start .sum-fits, start .pre .0 .0, bit-of (eqb (start .args .sum) 0), bit-le (eqb (start .args .sum) 0))
+    omega (arith, size-of start .weights-fit, start .pre .0 .0, bit-of (eqb (start .args .sum) 0), bit-le (eqb (start .args .sum) 0))
 
 slice-aggregate-cut-down : tie.Need-slice-aggregate-cut-down
 slice-aggregate-cut-down c = refl

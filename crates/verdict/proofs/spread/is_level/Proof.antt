@@ -10,7 +10,8 @@ use borrow.Author.Needs.{needs}
 use Rattle.lists.specs.Sums.{at}
 use Rattle.lists.proofs.Sums.{le-sum}
 use Rattle.verdict.specs.Steps.{height}
-use Rattle.division.proofs.Laws.{Sized, sized}
+use Rattle.division.specs.Refused.{FineSize}
+use Rattle.division.proofs.Laws.{sized}
 use Rattle.verdict.proofs.Heights.{most, least, most-none, most-suc, least-none, least-suc, least-le, level-spread}
 use Rattle.verdict.proofs.spread.is_level.Statement.{statement}
 use Rattle.verdict.proofs.spread.is_level.Tie as tie
@@ -24,7 +25,7 @@ Inv-loop pot weights sum amounts highest₀ lowest₀ i₀ highest lowest i =
 abbrev μ-loop : tie.MeasureT-loop
 μ-loop pot weights sum amounts highest₀ lowest₀ i₀ highest lowest i = length weights - i
 
-size-of : (c : tie.Start Inv-loop μ-loop) → Sized (c .args .pot) (c .args .sum)
+size-of : (c : tie.Start Inv-loop μ-loop) → FineSize (c .args .pot) (c .args .sum)
 size-of c = sized (c .args .pot) (c .args .sum) (c .pre .0 .1)
 
 -- an amount is at most the pot, and a weight at most the sum
@@ -39,7 +40,7 @@ weight-fits c i b =
     (le-sum (length (c .args .weights .now)) (at (c .args .weights .now)) i b)
 
 mul-lowest : tie.Need-mul-lowest Inv-loop μ-loop
-mul-lowest c = omega (arith, size-of (c .before .before) .sum-fits)
+mul-lowest c = omega (arith, size-of (c .before .before) .weights-fit)
 
 loop-holds : tie.Need-loop-holds Inv-loop μ-loop
 loop-holds c =
@@ -63,7 +64,7 @@ add-product c =
 product-requires : tie.Need-product-requires Inv-loop μ-loop
 product-requires c κs =
     let start = c .before .before .before .before .before in (
-      size-of start .sum-fits,
+      size-of start .weights-fit,
       omega (arith, amount-fits start (c .before .before .loop .i) (c .before .loop-test .taken), size-of start .pot-fits),
     )
 
@@ -76,18 +77,18 @@ shared-slice-read-product-2 c = search needs
 product-requires-2 : tie.Need-product-requires-2 Inv-loop μ-loop
 product-requires-2 c κs =
     let start = c .before .before .before .before .before .before .before in (
-      le-trans (weight-fits start (c .before .before .before .before .loop .i) (c .before .before .before .loop-test .taken)) (size-of start .sum-fits),
+      le-trans (weight-fits start (c .before .before .before .before .loop .i) (c .before .before .before .loop-test .taken)) (size-of start .weights-fit),
       omega (arith, size-of start .pot-fits),
     )
 
 mul-excess : tie.Need-mul-excess Inv-loop μ-loop
-mul-excess c = omega (arith, size-of (c .before .before .before .before .before .before .before .before) .sum-fits)
+mul-excess c = omega (arith, size-of (c .before .before .before .before .before .before .before .before) .weights-fit)
 
 excess-requires : tie.Need-excess-requires Inv-loop μ-loop
 excess-requires c κs = (
   c .before .before .product .ensures .low-fits,
   c .product2 .ensures .low-fits,
-  omega (arith, size-of (c .before .before .before .before .before .before .before .before) .sum-fits),
+  omega (arith, size-of (c .before .before .before .before .before .before .before .before) .weights-fit),
 )
 
 larger-requires : tie.Need-larger-requires Inv-loop μ-loop
@@ -121,7 +122,7 @@ add-result c =
     let l = c .before .loop in
     omega (
       arith,
-      size-of start .sum-fits,
+      size-of start .weights-fit,
       l .inv .2,
       least-le (2 * start .args .sum) (l .i) (height (start .args .pot) (start .args .weights .now) (start .args .sum) (start .args .amounts .now)),
     )
@@ -136,7 +137,7 @@ returns c =
     ap₂ (λ h low. leb h (low + a .sum)) (l .inv .1) (l .inv .2)
     ∙ ap (λ n. leb (most n (heights (a .sum))) (least (2 * a .sum) n (heights (a .sum)) + a .sum)) all
     ∙ ap (λ w. leb (most (length (a .weights .now)) (heights w)) (least (2 * w) (length (a .weights .now)) (heights w) + w)) (start .pre .0 .0)
-    ∙ level-spread (a .pot) (a .weights .now) (a .amounts .now) (subst (Sized (a .pot)) (start .pre .0 .0) (size-of start)) (start .pre .1 .0) (start .pre .1 .1)
+    ∙ level-spread (a .pot) (a .weights .now) (a .amounts .now) (subst (FineSize (a .pot)) (start .pre .0 .0) (size-of start)) (start .pre .1 .0) (start .pre .1 .1)
 
 pub is-level-spec : {M : Type 1} → statement M
 is-level-spec =
