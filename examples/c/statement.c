@@ -12,11 +12,18 @@ static uint8_t out[NOKETUALO_STATEMENT_ROOM];
 
 int main(void) {
     size_t length = fread(text, 1, sizeof text, stdin);
+    if (ferror(stdin)) {
+        perror("standard input");
+        return 1;
+    }
     uint64_t answer = noketualo_statement(text, length, out, sizeof out);
     if (noketualo_refusal(answer) != NOKETUALO_ACCEPTED) {
         fprintf(stderr, "refused: %u\n", noketualo_refusal(answer));
         return 1;
     }
-    fwrite(out, 1, (size_t)noketualo_value(answer), stdout);
+    if (fwrite(out, 1, (size_t)noketualo_value(answer), stdout) != noketualo_value(answer) || fflush(stdout) != 0) {
+        perror("standard output");
+        return 1;
+    }
     return 0;
 }

@@ -1,13 +1,27 @@
-// The statement program: a month file on standard input, its statement on standard output. One byte more than a file may have is
-// asked for, so that a file with too many is seen to have them.
-use statement_text::MOST_BYTES;
+// The statement program: a month file on standard input, its statement on standard output. A read or a write that fails is said on
+// standard error, and no `refuse=` line blames the file for it.
+use statement_text::MOST_ASKED;
 use statement_text::MOST_SHOWN;
 
+mod input;
+
 fn main() {
-    let mut text = [0u8; MOST_BYTES + 1];
+    let mut text = [0u8; MOST_ASKED];
     let mut out = [0u8; MOST_SHOWN];
-    let count = io::read_full(libc::STDIN_FILENO, &mut text);
-    let shown = statement_text::statement(&text[..count], &mut out);
-    let length = shown.length;
-    io::write_all(libc::STDOUT_FILENO, &out[..length]);
+    let input = input::read_all(libc::STDIN_FILENO, &mut text);
+    if input.failed {
+        io::write_all(
+            libc::STDERR_FILENO,
+            b"statement: standard input can't be read\n",
+        );
+        return;
+    }
+    let length = statement_text::state_file(&text, input.count, &mut out);
+    let written = io::write_all(libc::STDOUT_FILENO, &out[..length]);
+    if !written {
+        io::write_all(
+            libc::STDERR_FILENO,
+            b"statement: standard output can't be written\n",
+        );
+    }
 }

@@ -1,6 +1,7 @@
--- No statement has more than 10,128 bytes, for a number has 20 at most; and an accepted month's begins otherwise than a refusal.
+-- No statement has more than 10,128 bytes, for a number has 20 at most, so that so many are enough for any; and an accepted month's
+-- begins otherwise than a refusal.
 -- Assumes nothing.
-use mathlib.Core.Path.{_≡_, refl, ap, _∙_}
+use mathlib.Core.Path.{_≡_, refl, sym, ap, _∙_}
 use mathlib.Core.Logic.{_≢_, ⊎-elim}
 use mathlib.Core.Bool.{Bool, true, false, cond}
 use mathlib.Core.List.{List, [], _∷_, _++_}
@@ -20,13 +21,18 @@ use Rattle.tables.specs.Shape.{limit, chargeWidth, creditWidth}
 use Rattle.text.specs.Bytes.{bytes}
 use Rattle.text.specs.Numbers.{byteOf, digits, decimal}
 use Rattle.text.specs.Lines.{equals, separator, fieldsText, lineText}
+use Rattle.text.specs.Places.{stored}
+use Rattle.text.proofs.Stores.{length-stored}
 use Rattle.monthfile.specs.Form.{monthForm}
 use Rattle.monthfile.specs.Reading.{Outcome, got, refused, Contents, reading}
 use Rattle.monthfile.specs.Writing.{rowsText}
 use Rattle.pool.specs.Input.{Input, ownerCount, accountCount}
 use Rattle.settlement.specs.Accepted.{Accepted}
 use Rattle.settlement.proofs.Accepting.{answer-accepted}
-use Rattle.statement_text.specs.Statement.{linesText, statementLines, settledAnswer, refuseLine, monthOf, settledText, foundText, mostBytes, statementOf}
+use Rattle.statement_text.specs.Statement.{linesText, statementLines, settledAnswer, refuseLine, monthOf, settledText, foundText, mostBytes, mostShown, statementOf}
+use Rattle.statement_text.specs.declared.Shown.{Shown}
+use Rattle.statement_text.specs.Calls.{fitting, Shows, FileStated}
+use Rattle.statement_text.proofs.Showing.{fitting-all}
 use Rattle.statement_text.proofs.Stating.{settled-accepted, settled-refused, long-text, short-text}
 
 either-short : (t : Bool) (x y : List ℕ) (most : ℕ) → length x ≤ most → length y ≤ most → length (cond t x y) ≤ most
@@ -120,6 +126,24 @@ statement-short text =
     (λ (h : mostBytes < length text). le-trans (le-of-eq (ap length (long-text text h))) (refusal-short (refuse COUNT head 0)))
     (λ (h : length text ≤ mostBytes). le-trans (le-of-eq (ap length (short-text text h))) (found-short (reading monthForm text)))
     (lt-or-le mostBytes (length text))
+
+-- in so much room every statement is shown whole
+pub file-stated : (held : List ℕ) (count : ℕ) (lent after : List ℕ) (s : Shown) → length held ≡ mostBytes + 1 → length lent ≡ mostShown
+    → Shows (statementOf (take count held)) lent after s → FileStated held count lent after (s .length)
+file-stated held count lent after s more room shows =
+    let all : fitting (statementOf (take count held)) (length lent) ≡ statementOf (take count held) =
+    fitting-all (statementOf (take count held)) (length lent) (le-trans (statement-short (take count held)) (le-of-eq (sym room))) in
+    record {
+      one-more = more;
+      length-is = shows .length-is ∙ ap length all;
+      stores = shows .stores ∙ ap (stored lent 0) all;
+    }
+
+pub stated-within : {held : List ℕ} {count : ℕ} {lent after : List ℕ} {r : ℕ} → FileStated held count lent after r → length lent ≡ mostShown → r ≤ length after
+stated-within {held} {count} {lent} stated room =
+    le-trans (le-of-eq (stated .length-is))
+    (le-trans (statement-short (take count held))
+    (le-of-eq (sym (ap length (stated .stores) ∙ length-stored lent 0 (statementOf (take count held)) ∙ room))))
 
 -- the first byte of an accepted month's lines is a c or a t
 no-r : (accounts : ℕ) (charges : List ℕ) (owners : ℕ) (credits last : List ℕ) → at (linesText accounts charges owners credits (bytes "total") last) 0 ≢ 114

@@ -5,7 +5,7 @@ use mathlib.Core.List.{List}
 use Prim.Native.Nat.{ℕ}
 use Rattle.statement_text.specs.declared.Shown.{Shown}
 use Rattle.statement_text.specs.Statement.{statementOf}
-use Rattle.statement_text.specs.Calls.{Shows}
+use Rattle.statement_text.specs.Calls.{Shows, FileStated}
 
 pub statement-unique : (text lent after after′ : List ℕ) (r r′ : Shown) → Shows (statementOf text) lent after r → Shows (statementOf text) lent after′ r′
     → (r ≡ r′) × (after ≡ after′)
@@ -13,3 +13,7 @@ statement-unique text lent after after′ r r′ a b =
     let answer : r .answer ≡ r′ .answer = a .answers ∙ sym (b .answers) in
     let size : r .length ≡ r′ .length = a .length-is ∙ sym (b .length-is) in
     ((λ i. record { answer = answer i; length = size i }), a .stores ∙ sym (b .stores))
+
+pub file-stated-unique : (held : List ℕ) (count : ℕ) (lent after after′ : List ℕ) (r r′ : ℕ) → FileStated held count lent after r → FileStated held count lent after′ r′
+    → (r ≡ r′) × (after ≡ after′)
+file-stated-unique held count lent after after′ r r′ a b = (a .length-is ∙ sym (b .length-is), a .stores ∙ sym (b .stores))

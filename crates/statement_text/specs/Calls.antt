@@ -3,13 +3,14 @@
 use mathlib.Core.Path.{_≡_}
 use mathlib.Core.Bool.{cond}
 use mathlib.Core.List.{List, []}
-use Prim.Native.Nat.{ℕ}
+use Prim.Native.Nat.{ℕ, _+_}
 use lib.Dec.{ltb}
-use lib.ListN.{length}
+use lib.ListN.{length, take}
 use Rattle.answer.specs.Numbers.{head}
 use Rattle.tables.specs.Counts.{roomFor}
 use Rattle.text.specs.Places.{stored}
 use Rattle.statement_text.specs.declared.Shown.{Shown}
+use Rattle.statement_text.specs.Statement.{mostBytes, statementOf}
 
 -- a text where there is room for it, else nothing
 unfoldable pub fitting : List ℕ → ℕ → List ℕ
@@ -20,3 +21,10 @@ pub record Shows (text lent after : List ℕ) (r : Shown) : Type 0 where
   pub answers : r .answer ≡ roomFor head (length text) (length lent)
   pub length-is : r .length ≡ length (fitting text (length lent))
   pub stores : after ≡ stored lent 0 (fitting text (length lent))
+
+-- What `state_file` answers, and every lent byte afterwards. "The statement program reads at most 32,768 bytes .. (more is 1,0,0)": room
+-- for one more, by which a longer file is seen. The statement is written whole, whatever it is: there is no ROOM here.
+pub record FileStated (held : List ℕ) (count : ℕ) (lent after : List ℕ) (r : ℕ) : Type 0 where
+  pub one-more : length held ≡ mostBytes + 1
+  pub length-is : r ≡ length (statementOf (take count held))
+  pub stores : after ≡ stored lent 0 (statementOf (take count held))

@@ -3,7 +3,7 @@
 // text, `proofs/Promises.antt` what follows from it.
 ghost use Rattle.tables.specs.Shape.{tablesOf};
 ghost use Rattle.statement_text.specs.Statement.{statementOf, foundText};
-ghost use Rattle.statement_text.specs.Calls.{Shows};
+ghost use Rattle.statement_text.specs.Calls.{Shows, FileStated};
 ghost use Rattle.statement_text.specs.Steps.{Lent};
 ghost use Rattle.monthfile.specs.Form.{monthForm};
 ghost use Rattle.monthfile.specs.Reading.{reading};
@@ -16,6 +16,9 @@ mod lines;
 
 // The most bytes that a month file may have.
 pub const MOST_BYTES: usize = 32_768;
+
+// The bytes to ask for: one more, so that a file with too many is seen to have them.
+pub const MOST_ASKED: usize = MOST_BYTES + 1;
 
 // The most bytes that a statement has.
 pub const MOST_SHOWN: usize = 10_128;
@@ -97,4 +100,18 @@ pub fn statement(text: &[u8], out: &mut [u8]) -> Shown
         &mut credits,
         out,
     )
+}
+
+// Writes the statement of the file that stands in the first `count` bytes of `text` to the front of `out`, and answers its length.
+// `text` holds a byte more than a file may have, and `out` any statement: nothing is refused for want of room.
+pub fn state_file(text: &[u8; MOST_ASKED], count: usize, out: &mut [u8; MOST_SHOWN]) -> usize
+    ensures { λ r. ⌜ FileStated (now (text .entry)) count (now (out .entry)) (now (out .exit)) r ⌝ }
+{
+    let held: &[u8] = text;
+    if MOST_ASKED < count {
+        let all = statement(held, out);
+        return all.length;
+    }
+    let shown = statement(&held[..count], out);
+    shown.length
 }

@@ -1,44 +1,26 @@
--- `statement::main` is safe and ends: what is shown lies within the lent bytes.
+-- `statement::main` is safe and ends: no statement is longer than what is lent for it.
 -- Assumes nothing.
 use mathlib.Core.Path.{sym}
-use Prim.Native.Nat.{_≤_}
-use native.Mathlib.Nat.{le-trans, le-of-eq}
-use lib.ListN.{length}
+use Prim.Native.Nat.{ℕ, _≤_}
+use lib.ListN.{length, length-replicate}
 use lib.Seq.{length-take-le}
 use borrow.Author.Needs.{needs}
-use Rattle.statement_text.proofs.Showing.{fitting-within}
+use Rattle.statement_text.specs.Statement.{mostShown}
+use Rattle.statement_text.proofs.Sizes.{stated-within}
 use Rattle.statement.proofs.main.Statement.{statement}
 use Rattle.statement.proofs.main.Tie as tie
 
-inside : (c : tie.After-statement) → c .statement .result .length ≤ length (c .statement .last .1 .0)
-inside c =
-    le-trans (le-of-eq (c .statement .ensures .length-is))
-    (le-trans (fitting-within _ _) (le-of-eq (sym (c .statement .kept .1 .0))))
+inside : (c : tie.After-state-file) → c .state-file .result ≤ length (c .state-file .last .1 .1 .0)
+inside c = stated-within (c .state-file .ensures) (length-replicate {A = ℕ} mostShown 0)
 
-slice-aggregate-read-full : tie.Need-slice-aggregate-read-full
-slice-aggregate-read-full c = search needs
+slice-aggregate-read-all : tie.Need-slice-aggregate-read-all
+slice-aggregate-read-all c = search needs
 
-read-full-requires : tie.Need-read-full-requires
-read-full-requires c κs = search needs
-
-array-share-prefix-text : tie.Need-array-share-prefix-text
-array-share-prefix-text c = search needs
-
-slice-aggregate-statement : tie.Need-slice-aggregate-statement
-slice-aggregate-statement c = search needs
-
-slice-aggregate-statement-2 : tie.Need-slice-aggregate-statement-2
-slice-aggregate-statement-2 c = search needs
-
-statement-requires : tie.Need-statement-requires
-statement-requires c κs = search needs
-
-array-share-prefix-out : tie.Need-array-share-prefix-out
-array-share-prefix-out c = inside (c .before)
+read-all-requires : tie.Need-read-all-requires
+read-all-requires c κs = search needs
 
 slice-aggregate-write-all : tie.Need-slice-aggregate-write-all
-slice-aggregate-write-all c =
-    sym (length-take-le (c .before .before .statement .result .length) (c .before .before .statement .last .1 .0) (inside (c .before .before)))
+slice-aggregate-write-all c = search needs
 
 write-all-requires : tie.Need-write-all-requires
 write-all-requires c κs = search needs
@@ -46,17 +28,45 @@ write-all-requires c κs = search needs
 returns : tie.Need-returns
 returns c = search needs
 
+state-file-requires : tie.Need-state-file-requires
+state-file-requires c κs = search needs
+
+array-share-prefix-out : tie.Need-array-share-prefix-out
+array-share-prefix-out c = inside c
+
+slice-aggregate-write-all-2 : tie.Need-slice-aggregate-write-all-2
+slice-aggregate-write-all-2 c =
+    sym (length-take-le (c .before .state-file .result) (c .before .state-file .last .1 .1 .0) (inside (c .before)))
+
+write-all-requires-2 : tie.Need-write-all-requires-2
+write-all-requires-2 c κs = search needs
+
+slice-aggregate-write-all-3 : tie.Need-slice-aggregate-write-all-3
+slice-aggregate-write-all-3 c = search needs
+
+write-all-requires-3 : tie.Need-write-all-requires-3
+write-all-requires-3 c κs = search needs
+
+returns-2 : tie.Need-returns-2
+returns-2 c = search needs
+
+returns-3 : tie.Need-returns-3
+returns-3 c = search needs
+
 pub main-spec : {M : Type 1} → statement M
 main-spec =
     tie.close
     (tie.spec
-    slice-aggregate-read-full
-    read-full-requires
-    array-share-prefix-text
-    slice-aggregate-statement
-    slice-aggregate-statement-2
-    statement-requires
-    array-share-prefix-out
+    slice-aggregate-read-all
+    read-all-requires
     slice-aggregate-write-all
     write-all-requires
-    returns)
+    returns
+    state-file-requires
+    array-share-prefix-out
+    slice-aggregate-write-all-2
+    write-all-requires-2
+    slice-aggregate-write-all-3
+    write-all-requires-3
+    returns-2
+    returns-3)
