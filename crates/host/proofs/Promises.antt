@@ -11,11 +11,11 @@ use Rattle.lists.specs.Sums.{at}
 use Rattle.answer.specs.Numbers.{COUNT, ROOM}
 use Rattle.division.specs.Limits.{divideRefusal}
 use Rattle.division.specs.Shares.{shares}
-use Rattle.verdict.specs.Check.{verdict, numberOf, valueOf}
+use Rattle.verdict.specs.Check.{verdict, meaning}
 use Rattle.statement_text.proofs.Promises.{statement-is-short}
 use Rattle.host.specs.Words.{numbers, bytes}
 use Rattle.statement_text.specs.Statement.{statementOf, mostShown}
-use Rattle.host.specs.Calls.{word, hostDivideRefusal, hostMemory, HostDivided, hostVerdict, HostStated}
+use Rattle.host.specs.Calls.{word, hostDivideRefusal, hostMemory, HostDivided, valueOf, hostVerdict, HostStated}
 use Rattle.host.proofs.Digits as digits
 use Rattle.host.proofs.Calls as calls
 use Rattle.host.proofs.Reading as reading
@@ -73,8 +73,8 @@ divide-in-parts pot weights before after r d =
 
 -- of whole words the low byte of a check's answer is the refusal's number, and the bits above it are 1 for yes and else 0
 pub check-in-parts : (pot : ℕ) (weights amounts : List ℕ) → length weights % 8 ≡ 0 → length amounts % 8 ≡ 0
-    → (hostVerdict pot weights amounts % 256 ≡ numberOf (verdict pot (numbers weights) (numbers amounts)))
-    × (hostVerdict pot weights amounts / 256 ≡ valueOf (verdict pot (numbers weights) (numbers amounts)))
+    → (hostVerdict pot weights amounts % 256 ≡ meaning (verdict pot (numbers weights) (numbers amounts)) .number)
+    × (hostVerdict pot weights amounts / 256 ≡ valueOf (meaning (verdict pot (numbers weights) (numbers amounts)) .says))
 check-in-parts pot weights amounts e f = reading.said-in-parts pot weights amounts (record { these-whole = e; those-whole = f })
 
 -- where the lent bytes are enough for it, the statement stands first, and its length is the answer's value

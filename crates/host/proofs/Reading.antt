@@ -15,12 +15,12 @@ use Rattle.lists.proofs.Entries.{length-listed}
 use Rattle.answer.proofs.Turns.{look-none, zero-or-not}
 use Rattle.division.specs.Limits.{divideRefusal}
 use Rattle.division.specs.Shares.{shares}
-use Rattle.verdict.specs.Check.{verdict, numberOf, valueOf}
+use Rattle.verdict.specs.Check.{verdict, meaning}
 use Rattle.division.proofs.Laws as laws
 use Rattle.verdict.proofs.Laws as verdicts
 use Rattle.host.specs.Words.{isUneven, numbers, bytes}
 use Rattle.host.specs.Stores.{byteAt, WholeWords}
-use Rattle.host.specs.Calls.{word, hostDivideRefusal, hostMemory, hostVerdict}
+use Rattle.host.specs.Calls.{word, hostDivideRefusal, hostMemory, valueOf, hostVerdict}
 use Rattle.host.proofs.Digits.{numbers-bytes, length-numbers}
 use Rattle.host.proofs.Calls as calls
 
@@ -48,13 +48,13 @@ module _ (pot : ℕ) (weights amounts : List ℕ) where
       (true-or-false (isUneven (length weights) (length amounts)))
 
   pub said-in-parts : WholeWords weights amounts
-      → (hostVerdict pot weights amounts % 256 ≡ numberOf (verdict pot (numbers weights) (numbers amounts)))
-      × (hostVerdict pot weights amounts / 256 ≡ valueOf (verdict pot (numbers weights) (numbers amounts)))
+      → (hostVerdict pot weights amounts % 256 ≡ meaning (verdict pot (numbers weights) (numbers amounts)) .number)
+      × (hostVerdict pot weights amounts / 256 ≡ valueOf (meaning (verdict pot (numbers weights) (numbers amounts)) .says))
   said-in-parts w =
       let said = verdict pot (numbers weights) (numbers amounts) in
-      let small : numberOf said < 256 = omega (arith, verdicts.check-number pot (numbers weights) (numbers amounts)) in
-      subst (λ r. (r % 256 ≡ numberOf said) × (r / 256 ≡ valueOf said)) (calls.said pot weights amounts w said refl)
-      (answer-in-parts (numberOf said) (valueOf said) small)
+      let small : meaning said .number < 256 = omega (arith, verdicts.check-number pot (numbers weights) (numbers amounts)) in
+      subst (λ r. (r % 256 ≡ meaning said .number) × (r / 256 ≡ valueOf (meaning said .says))) (calls.said pot weights amounts w said refl)
+      (answer-in-parts (meaning said .number) (valueOf (meaning said .says)) small)
 
   pub memory-refused : hostDivideRefusal pot weights amounts ≢ 0 → hostMemory pot weights amounts ≡ amounts
   memory-refused d = sym (calls.refused pot weights amounts (hostDivideRefusal pot weights amounts) refl d .lent)
