@@ -61,11 +61,11 @@ module _ (pot : ℕ) (weights amounts : List ℕ) where
 
   -- where a division is accepted
   module _ (e : hostDivideRefusal pot weights amounts ≡ 0) where
-    looked : (isUneven (length weights) (length amounts) ≡ false) × (divideRefusal pot (numbers weights) (length amounts / 8) ≡ 0)
+    pub looked : (isUneven (length weights) (length amounts) ≡ false) × (divideRefusal pot (numbers weights) (length amounts / 8) ≡ 0)
     unfolding hostDivideRefusal
     looked = look-none (isUneven (length weights) (length amounts)) 1 (divideRefusal pot (numbers weights) (length amounts / 8)) (λ q. omega arith) e
 
-    whole : WholeWords weights amounts
+    pub whole : WholeWords weights amounts
     whole = calls.whole-words weights amounts (looked .0)
 
     long : length (bytes (shares pot (numbers weights))) ≡ length weights
@@ -80,11 +80,18 @@ module _ (pot : ℕ) (weights amounts : List ℕ) where
         ap (λ t. cond t (bytes (shares pot (numbers weights)) ++ drop (length weights) amounts) amounts)
         (eq-eqb (hostDivideRefusal pot weights amounts) 0 e)
 
+    first-bytes : take (length weights) (hostMemory pot weights amounts) ≡ bytes (shares pot (numbers weights))
+    first-bytes =
+        ap (take (length weights)) memory-is
+        ∙ take-at (bytes (shares pot (numbers weights))) (drop (length weights) amounts) (length weights) long
+
+    pub as-many-bytes : length (take (length weights) (hostMemory pot weights amounts)) ≡ length weights
+    as-many-bytes = ap length first-bytes ∙ long
+
     pub shares-in-bytes : numbers (take (length weights) (hostMemory pot weights amounts)) ≡ shares pot (numbers weights)
     shares-in-bytes =
         let good = laws.divide-accepted pot (numbers weights) (length amounts / 8) (looked .1) in
-        ap (λ m. numbers (take (length weights) m)) memory-is
-        ∙ ap numbers (take-at (bytes (shares pot (numbers weights))) (drop (length weights) amounts) (length weights) long)
+        ap numbers first-bytes
         ∙ numbers-bytes (shares pot (numbers weights))
         (λ i b. let small = laws.share-within pot (numbers weights) (good .2 .has-base) i in omega (arith, small, good .2 .pot-fits))
 

@@ -13,7 +13,7 @@ use Rattle.closeness.specs.Closeness.{Closest}
 use Rattle.division.specs.Limits.{mostWeights}
 use Rattle.division.proofs.Laws.{zero-or-within}
 use Rattle.verdict.specs.Check.{verdict, yes, no, meaning}
-use Rattle.verdict.specs.Refused.{FineCheck}
+use Rattle.verdict.specs.Refused.{FineCheck, CheckRefused}
 use Rattle.verdict.specs.declared.Verdict.the-variants.{Refused}
 use Rattle.verdict.proofs.Verdicts as verdicts
 use Rattle.verdict.proofs.Reasons as reasons
@@ -22,7 +22,7 @@ use Rattle.verdict.proofs.Passing as passing
 -- what a refused check says, and that shares pass
 pub use Rattle.verdict.proofs.Passing.{refused-exactly, divisions-pass}
 
--- no refusal has a number above BASE
+-- no refusal has a number above BASE, and none has 0
 pub check-number : (pot : ℕ) (weights amounts : List ℕ) → meaning (verdict pot weights amounts) .number ≤ BASE
 check-number pot weights amounts =
     let n = meaning (verdict pot weights amounts) .number in
@@ -30,6 +30,9 @@ check-number pot weights amounts =
     (λ d.
     reasons.check-within pot weights amounts n
     (reasons.check-why pot weights amounts n (sym (verdicts.its-number pot weights amounts), d)))
+
+pub refused-number : (pot : ℕ) (weights amounts : List ℕ) (n : ℕ) → CheckRefused pot weights amounts n → (n ≢ 0) × (n ≤ BASE)
+refused-number pot weights amounts n why = (reasons.why-check pot weights amounts n why .1, reasons.check-within pot weights amounts n why)
 
 -- a check of more than 64 weights, or of another number of amounts than weights, is refused with COUNT
 pub check-many-weights : (pot : ℕ) (weights amounts : List ℕ) → mostWeights < length weights → verdict pot weights amounts ≡ Refused COUNT
