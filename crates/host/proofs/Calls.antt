@@ -15,7 +15,7 @@ use Rattle.lists.proofs.Sums.{neither}
 use Rattle.lists.specs.Entries.{put}
 use Rattle.division.specs.Limits.{mostWeights, divideRefusal}
 use Rattle.division.specs.Shares.{shares, Divided}
-use Rattle.verdict.specs.Check.{verdict, numberOf, valueOf}
+use Rattle.verdict.specs.Check.{verdict}
 use Rattle.division.specs.declared.Division.{Division}
 use Rattle.verdict.specs.declared.Verdict.{Verdict}
 use Rattle.verdict.specs.declared.Verdict.the-variants.{Refused}
@@ -23,7 +23,7 @@ use Rattle.division.proofs.Laws as laws
 use Rattle.verdict.proofs.Laws as verdicts
 use Rattle.host.specs.Words.{isUneven, numbers, bytes}
 use Rattle.host.specs.Stores.{byteAt, WholeWords}
-use Rattle.host.specs.Calls.{word, hostDivideRefusal, hostMemory, HostDivided, hostVerdict}
+use Rattle.host.specs.Calls.{hostDivideRefusal, hostMemory, HostDivided, verdictWord, hostVerdict}
 use Rattle.host.proofs.Digits.{length-numbers, stored-bytes}
 
 -- slices of whole words are not uneven
@@ -63,19 +63,15 @@ module _ (pot : ℕ) (weights amounts : List ℕ) where
 
   pub check-uneven : isUneven (length weights) (length amounts) ≡ true → 1 ≡ hostVerdict pot weights amounts
   unfolding hostVerdict
-  check-uneven e =
-      sym
-      (ap
-      (λ t. cond t 1 (word (numberOf (verdict pot (numbers weights) (numbers amounts))) (valueOf (verdict pot (numbers weights) (numbers amounts)))))
-      e)
+  check-uneven e = sym (ap (λ t. cond t 1 (verdictWord (verdict pot (numbers weights) (numbers amounts)))) e)
 
   -- the check's answer in one word
   pub said : WholeWords weights amounts → (v : Verdict) → v ≡ verdict pot (numbers weights) (numbers amounts)
-      → word (numberOf v) (valueOf v) ≡ hostVerdict pot weights amounts
+      → verdictWord v ≡ hostVerdict pot weights amounts
   unfolding hostVerdict
   said w v e =
-      ap (λ u. word (numberOf u) (valueOf u)) e
-      ∙ sym (ap (λ t. cond t 1 (word (numberOf (verdict pot (numbers weights) (numbers amounts))) (valueOf (verdict pot (numbers weights) (numbers amounts))))) (even weights amounts w))
+      ap verdictWord e
+      ∙ sym (ap (λ t. cond t 1 (verdictWord (verdict pot (numbers weights) (numbers amounts)))) (even weights amounts w))
 
   pub check-many : WholeWords weights amounts → mostWeights < length weights / 8 → 1 ≡ hostVerdict pot weights amounts
   check-many w h = said w (Refused 1) (sym (verdicts.check-many-weights pot (numbers weights) (numbers amounts) (rw length-numbers h)))

@@ -1,6 +1,7 @@
 pub mod Digits
 pub mod Calls
 pub mod Reading
+pub mod Judged
 pub mod Stating
 pub mod Promises
 pub mod Unique

@@ -1,24 +1,28 @@
 -- What is promised of the phone app's calls, beyond their definitions. Nothing else stands here; the proofs are in `Digits`,
--- `Calls`, `Reading` and `Stating`.
+-- `Calls`, `Reading`, `Judged` and `Stating`.
 -- Assumes nothing.
 use mathlib.Core.Path.{_≡_, sym, subst}
-use mathlib.Core.Logic.{_⊎_, _≢_}
+use mathlib.Core.Logic.{_⊎_, _↔_, _≢_}
 use mathlib.Core.List.{List, _++_}
 use Prim.Native.Nat.{ℕ, _/_, _%_, _^_, _≤_, _<_}
 use native.Mathlib.Nat.{le-trans}
 use lib.ListN.{length, take, drop}
-use Rattle.lists.specs.Sums.{at}
+use Rattle.lists.specs.Sums.{at, total}
 use Rattle.answer.specs.Numbers.{COUNT, ROOM}
+use Rattle.closeness.specs.Closeness.{Closest}
 use Rattle.division.specs.Limits.{divideRefusal}
 use Rattle.division.specs.Shares.{shares}
-use Rattle.verdict.specs.Check.{verdict, numberOf, valueOf}
+use Rattle.verdict.specs.Check.{verdict, meaning}
+use Rattle.verdict.specs.Refused.{FineCheck}
 use Rattle.statement_text.proofs.Promises.{statement-is-short}
 use Rattle.host.specs.Words.{numbers, bytes}
 use Rattle.statement_text.specs.Statement.{statementOf, mostShown}
-use Rattle.host.specs.Calls.{word, hostDivideRefusal, hostMemory, HostDivided, hostVerdict, HostStated}
+use Rattle.host.specs.Calls.{word, hostDivideRefusal, hostMemory, HostDivided, valueOf, hostVerdict, HostStated}
+use Rattle.host.specs.Refused.{HostCheckRefused}
 use Rattle.host.proofs.Digits as digits
 use Rattle.host.proofs.Calls as calls
 use Rattle.host.proofs.Reading as reading
+use Rattle.host.proofs.Judged as judged
 use Rattle.host.proofs.Stating as stating
 
 -- numbers below 2^64 that are written as bytes and read again are the same numbers ..
@@ -57,7 +61,7 @@ uneven-divide-count pot weights amounts d = calls.divide-uneven pot weights amou
 -- .. and for the check, which then has no value
 pub uneven-check-count : (pot : ℕ) (weights amounts : List ℕ) → (length weights % 8 ≢ 0) ⊎ (length amounts % 8 ≢ 0)
     → hostVerdict pot weights amounts ≡ word COUNT 0
-uneven-check-count pot weights amounts d = sym (calls.check-uneven pot weights amounts (reading.uneven weights amounts d))
+uneven-check-count = judged.uneven
 
 -- of whole words a division is refused as that of the numbers
 pub whole-words-divide : (pot : ℕ) (weights amounts : List ℕ) → length weights % 8 ≡ 0 → length amounts % 8 ≡ 0
@@ -73,9 +77,35 @@ divide-in-parts pot weights before after r d =
 
 -- of whole words the low byte of a check's answer is the refusal's number, and the bits above it are 1 for yes and else 0
 pub check-in-parts : (pot : ℕ) (weights amounts : List ℕ) → length weights % 8 ≡ 0 → length amounts % 8 ≡ 0
-    → (hostVerdict pot weights amounts % 256 ≡ numberOf (verdict pot (numbers weights) (numbers amounts)))
-    × (hostVerdict pot weights amounts / 256 ≡ valueOf (verdict pot (numbers weights) (numbers amounts)))
+    → (hostVerdict pot weights amounts % 256 ≡ meaning (verdict pot (numbers weights) (numbers amounts)) .number)
+    × (hostVerdict pot weights amounts / 256 ≡ valueOf (meaning (verdict pot (numbers weights) (numbers amounts)) .says))
 check-in-parts pot weights amounts e f = reading.said-in-parts pot weights amounts (record { these-whole = e; those-whole = f })
+
+-- the check's call is judged by the bytes' numbers: where nothing is refused, so for whole words of bytes, at most 64 weights, as
+-- many amounts, a pot and weights within their limits and a sum above zero unless the pot is zero ..
+module _ (pot : ℕ) (weights amounts : List ℕ) where
+  -- .. the answer is 256, yes, exactly when the amounts add up to the pot and no list of whole numbers of the same length with
+  -- that sum lies closer to the exact shares ..
+  pub check-yes-exactly : (hostVerdict pot weights amounts ≡ 256)
+      ↔ ((length weights % 8 ≡ 0) × (length amounts % 8 ≡ 0) × FineCheck pot (numbers weights) (numbers amounts)
+      × (total (numbers amounts) ≡ pot) × Closest pot (numbers weights) (numbers amounts))
+  check-yes-exactly = judged.yes-exactly pot weights amounts
+
+  -- .. and 0, no, exactly when they do not
+  pub check-no-exactly : (hostVerdict pot weights amounts ≡ 0)
+      ↔ ((length weights % 8 ≡ 0) × (length amounts % 8 ≡ 0) × FineCheck pot (numbers weights) (numbers amounts)
+      × (¬ ((total (numbers amounts) ≡ pot) × Closest pot (numbers weights) (numbers amounts))))
+  check-no-exactly = judged.no-exactly pot weights amounts
+
+  -- any other answer is the refusal's number: COUNT for an uneven length, else the first of COUNT, BIG, BASE that holds
+  pub check-refused-exactly : (n : ℕ)
+      → ((hostVerdict pot weights amounts ≡ n) × (n ≢ 0) × (n ≢ 256)) ↔ HostCheckRefused pot weights amounts n
+  check-refused-exactly = judged.refused-exactly pot weights amounts
+
+-- the check's call passes the bytes of every division that the other call makes
+pub divisions-pass : (pot : ℕ) (weights before after : List ℕ) (r : ℕ) → HostDivided pot weights before after r → r ≡ 0
+    → hostVerdict pot weights (take (length weights) after) ≡ 256
+divisions-pass = judged.divisions-pass
 
 -- where the lent bytes are enough for it, the statement stands first, and its length is the answer's value
 pub statement-with-room : (text before after : List ℕ) (r : ℕ) → HostStated text before after r → length (statementOf text) ≤ length before

@@ -15,12 +15,12 @@ use Rattle.lists.proofs.Entries.{length-listed}
 use Rattle.answer.proofs.Turns.{look-none, zero-or-not}
 use Rattle.division.specs.Limits.{divideRefusal}
 use Rattle.division.specs.Shares.{shares}
-use Rattle.verdict.specs.Check.{verdict, numberOf, valueOf}
+use Rattle.verdict.specs.Check.{verdict, meaning}
 use Rattle.division.proofs.Laws as laws
 use Rattle.verdict.proofs.Laws as verdicts
 use Rattle.host.specs.Words.{isUneven, numbers, bytes}
 use Rattle.host.specs.Stores.{byteAt, WholeWords}
-use Rattle.host.specs.Calls.{word, hostDivideRefusal, hostMemory, hostVerdict}
+use Rattle.host.specs.Calls.{word, hostDivideRefusal, hostMemory, valueOf, hostVerdict}
 use Rattle.host.proofs.Digits.{numbers-bytes, length-numbers}
 use Rattle.host.proofs.Calls as calls
 
@@ -48,24 +48,24 @@ module _ (pot : ℕ) (weights amounts : List ℕ) where
       (true-or-false (isUneven (length weights) (length amounts)))
 
   pub said-in-parts : WholeWords weights amounts
-      → (hostVerdict pot weights amounts % 256 ≡ numberOf (verdict pot (numbers weights) (numbers amounts)))
-      × (hostVerdict pot weights amounts / 256 ≡ valueOf (verdict pot (numbers weights) (numbers amounts)))
+      → (hostVerdict pot weights amounts % 256 ≡ meaning (verdict pot (numbers weights) (numbers amounts)) .number)
+      × (hostVerdict pot weights amounts / 256 ≡ valueOf (meaning (verdict pot (numbers weights) (numbers amounts)) .says))
   said-in-parts w =
       let said = verdict pot (numbers weights) (numbers amounts) in
-      let small : numberOf said < 256 = omega (arith, verdicts.check-number pot (numbers weights) (numbers amounts)) in
-      subst (λ r. (r % 256 ≡ numberOf said) × (r / 256 ≡ valueOf said)) (calls.said pot weights amounts w said refl)
-      (answer-in-parts (numberOf said) (valueOf said) small)
+      let small : meaning said .number < 256 = omega (arith, verdicts.check-number pot (numbers weights) (numbers amounts)) in
+      subst (λ r. (r % 256 ≡ meaning said .number) × (r / 256 ≡ valueOf (meaning said .says))) (calls.said pot weights amounts w said refl)
+      (answer-in-parts (meaning said .number) (valueOf (meaning said .says)) small)
 
   pub memory-refused : hostDivideRefusal pot weights amounts ≢ 0 → hostMemory pot weights amounts ≡ amounts
   memory-refused d = sym (calls.refused pot weights amounts (hostDivideRefusal pot weights amounts) refl d .lent)
 
   -- where a division is accepted
   module _ (e : hostDivideRefusal pot weights amounts ≡ 0) where
-    looked : (isUneven (length weights) (length amounts) ≡ false) × (divideRefusal pot (numbers weights) (length amounts / 8) ≡ 0)
+    pub looked : (isUneven (length weights) (length amounts) ≡ false) × (divideRefusal pot (numbers weights) (length amounts / 8) ≡ 0)
     unfolding hostDivideRefusal
     looked = look-none (isUneven (length weights) (length amounts)) 1 (divideRefusal pot (numbers weights) (length amounts / 8)) (λ q. omega arith) e
 
-    whole : WholeWords weights amounts
+    pub whole : WholeWords weights amounts
     whole = calls.whole-words weights amounts (looked .0)
 
     long : length (bytes (shares pot (numbers weights))) ≡ length weights
@@ -80,11 +80,18 @@ module _ (pot : ℕ) (weights amounts : List ℕ) where
         ap (λ t. cond t (bytes (shares pot (numbers weights)) ++ drop (length weights) amounts) amounts)
         (eq-eqb (hostDivideRefusal pot weights amounts) 0 e)
 
+    first-bytes : take (length weights) (hostMemory pot weights amounts) ≡ bytes (shares pot (numbers weights))
+    first-bytes =
+        ap (take (length weights)) memory-is
+        ∙ take-at (bytes (shares pot (numbers weights))) (drop (length weights) amounts) (length weights) long
+
+    pub as-many-bytes : length (take (length weights) (hostMemory pot weights amounts)) ≡ length weights
+    as-many-bytes = ap length first-bytes ∙ long
+
     pub shares-in-bytes : numbers (take (length weights) (hostMemory pot weights amounts)) ≡ shares pot (numbers weights)
     shares-in-bytes =
         let good = laws.divide-accepted pot (numbers weights) (length amounts / 8) (looked .1) in
-        ap (λ m. numbers (take (length weights) m)) memory-is
-        ∙ ap numbers (take-at (bytes (shares pot (numbers weights))) (drop (length weights) amounts) (length weights) long)
+        ap numbers first-bytes
         ∙ numbers-bytes (shares pot (numbers weights))
         (λ i b. let small = laws.share-within pot (numbers weights) (good .2 .has-base) i in omega (arith, small, good .2 .pot-fits))
 

@@ -10,7 +10,8 @@ use Rattle.answer.specs.Numbers.{COUNT, head}
 use Rattle.answer.specs.Turns.{look}
 use Rattle.division.specs.Limits.{divideRefusal}
 use Rattle.division.specs.Shares.{shares}
-use Rattle.verdict.specs.Check.{verdict, numberOf, valueOf}
+use Rattle.verdict.specs.Check.{verdict, Saying, yes, no, neither, meaning}
+use Rattle.verdict.specs.declared.Verdict.{Verdict}
 use Rattle.tables.specs.Counts.{roomFor}
 use Rattle.text.specs.Places as places
 use Rattle.statement_text.specs.Statement.{statementOf}
@@ -37,11 +38,20 @@ pub record HostDivided (pot : ℕ) (weights before after : List ℕ) (r : ℕ) :
   pub answer : r ≡ word (hostDivideRefusal pot weights before) 0
   pub lent : after ≡ hostMemory pot weights before
 
+-- the value for what a check says, ours and not the paper's: 1 for yes, else 0
+abbrev pub valueOf : Saying → ℕ
+valueOf yes = 1
+valueOf no = 0
+valueOf neither = 0
+
+-- one word for a check's answer
+abbrev pub verdictWord : Verdict → ℕ
+verdictWord said = word (meaning said .number) (valueOf (meaning said .says))
+
 -- What `noketualo_check` answers.
 unfoldable pub hostVerdict : ℕ → List ℕ → List ℕ → ℕ
 hostVerdict pot weights amounts =
-    look (isUneven (length weights) (length amounts)) COUNT
-    (word (numberOf (verdict pot (numbers weights) (numbers amounts))) (valueOf (verdict pot (numbers weights) (numbers amounts))))
+    look (isUneven (length weights) (length amounts)) COUNT (verdictWord (verdict pot (numbers weights) (numbers amounts)))
 
 -- What `noketualo_statement` answers and leaves in the lent bytes: ROOM and nothing, or the statement and its length. A month that
 -- is refused has a statement too, so the answer's number is then 0.

@@ -1,7 +1,8 @@
 pub mod Heights
 pub mod Verdicts
 pub mod Reasons
+pub mod Sayings
+pub mod Passing
 pub mod Laws
 pub mod Unique
-pub mod Passing
 pub mod Promises

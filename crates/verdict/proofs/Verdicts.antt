@@ -12,7 +12,7 @@ use Rattle.lists.specs.Sums.{total}
 use Rattle.answer.proofs.Turns.{zero-or-not}
 use Rattle.closeness.specs.Closeness.{level}
 use Rattle.division.specs.Limits.{mostWeights, potLimit, sizeRefusal}
-use Rattle.verdict.specs.Check.{checkRefusal, passes, verdict, numberOf}
+use Rattle.verdict.specs.Check.{checkRefusal, passes, verdict, meaning}
 use Rattle.verdict.specs.declared.Verdict.the-variants.{Yes, No, Refused}
 
 module _ (pot : ℕ) (weights amounts : List ℕ) where
@@ -40,14 +40,14 @@ module _ (pot : ℕ) (weights amounts : List ℕ) where
   said e = rw (eq-eqb (checkRefusal pot weights amounts) 0 e)
 
   -- its number is the refusal's, 0 where nothing is refused
-  pub its-number : numberOf (verdict pot weights amounts) ≡ checkRefusal pot weights amounts
+  pub its-number : meaning (verdict pot weights amounts) .number ≡ checkRefusal pot weights amounts
   its-number =
       ⊎-elim
-      (λ (e : checkRefusal pot weights amounts ≡ 0). ap numberOf (said e) ∙ neither-refuses (passes pot weights amounts) ∙ sym e)
-      (λ (d : checkRefusal pot weights amounts ≢ 0). ap numberOf (sym (refused (checkRefusal pot weights amounts) refl d)))
+      (λ (e : checkRefusal pot weights amounts ≡ 0). ap (λ v. meaning v .number) (said e) ∙ neither-refuses (passes pot weights amounts) ∙ sym e)
+      (λ (d : checkRefusal pot weights amounts ≢ 0). ap (λ v. meaning v .number) (sym (refused (checkRefusal pot weights amounts) refl d)))
       (zero-or-not (checkRefusal pot weights amounts))
     where
-      neither-refuses : (t : Bool) → numberOf (cond t Yes No) ≡ 0
+      neither-refuses : (t : Bool) → meaning (cond t Yes No) .number ≡ 0
       neither-refuses true = refl
       neither-refuses false = refl
 

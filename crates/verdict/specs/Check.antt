@@ -32,18 +32,23 @@ verdict pot weights amounts =
     (cond (passes pot weights amounts) Yes No)
     (Refused (checkRefusal pot weights amounts))
 
--- the paper's number of each case, 0 where nothing is refused
-abbrev pub numberOf : Verdict → ℕ
-numberOf Yes = 0
-numberOf No = 0
-numberOf (Refused number) = number
+-- what a check can say: "A refused check says neither yes nor no"
+pub data Saying : Type 0 where
+  yes : Saying
+  no : Saying
+  neither : Saying
 
--- the value that the host hands on for each case, ours and not the paper's: 1 for yes, 0 for no and where the check is refused
-abbrev pub valueOf : Verdict → ℕ
-valueOf Yes = 1
-valueOf No = 0
-valueOf (Refused number) = 0
+-- what an answer of the check stands for: what it says, and the paper's number, 0 where nothing is refused
+pub record Meaning : Type 0 where
+  pub says : Saying
+  pub number : ℕ
+
+-- "a definition gives this paper's number and values for each of its cases"
+abbrev pub meaning : Verdict → Meaning
+meaning Yes = record { says = yes; number = 0 }
+meaning No = record { says = no; number = 0 }
+meaning (Refused number) = record { says = neither; number = number }
 
 -- "The answer is number, table, row": that of each case; "table and row are 0"
 abbrev pub answerOf : Verdict → Answer
-answerOf said = record { number = numberOf said; table = head; row = 0 }
+answerOf said = record { number = meaning said .number; table = head; row = 0 }

@@ -1,4 +1,4 @@
--- What a refusal of a check says: each number stands for the first condition that holds.
+-- When a check is not refused, and what a refusal says: each number stands for the first condition that holds.
 -- Assumes nothing.
 use mathlib.Core.Path.{_≡_}
 use mathlib.Core.Logic.{_≢_}
@@ -8,7 +8,13 @@ use lib.ListN.{length}
 use Rattle.lists.specs.Sums.{total}
 use Rattle.answer.specs.Numbers.{COUNT}
 use Rattle.division.specs.Limits.{mostWeights}
-use Rattle.division.specs.Refused.{SizeRefused}
+use Rattle.division.specs.Refused.{FineSize, SizeRefused}
+
+-- nothing is refused: "at most 64" weights, as many amounts, and a pot and a sum of weights that can be divided
+pub record FineCheck (pot : ℕ) (weights amounts : List ℕ) : Type 0 where
+  pub few : length weights ≤ mostWeights
+  pub alike : length weights ≡ length amounts
+  pub sizes : FineSize pot (total weights)
 
 -- "the check at COUNT, BIG, BASE"
 pub data CheckRefused (pot : ℕ) (weights amounts : List ℕ) (n : ℕ) : Type 0 where
