@@ -1,4 +1,5 @@
--- The lent outputs after a settlement: word by word, column by column, and all words that were written added up.
+-- The lent outputs after a settlement hold its figures, laid end to end: so each word is a figure, a column of words adds up to the
+-- column of figures, and all words that were written add up to all figures.
 -- Assumes nothing.
 use mathlib.Core.Path.{_≡_, sym, ap, ap₂, _∙_}
 use mathlib.Core.Logic.{_≢_}
@@ -47,7 +48,7 @@ by-rows (suc n) width f =
     ∙ ap₂ _+_ (by-rows n width f)
     (sum-eq width (λ column. laid width f (n * width + column)) (λ column. f column n) (λ column h. laid-at width f column n h))
 
-pub flat-sum : (n width : ℕ) (f : ℕ → ℕ → ℕ) → sumTo (n * width) (laid width f) ≡ sumTo width (λ column. sumTo n (f column))
+flat-sum : (n width : ℕ) (f : ℕ → ℕ → ℕ) → sumTo (n * width) (laid width f) ≡ sumTo width (λ column. sumTo n (f column))
 flat-sum n width f = by-rows n width f ∙ sum-swap n width (λ i column. f column i)
 
 -- words that hold figures laid end to end
@@ -55,10 +56,10 @@ module _ (n width : ℕ) (f : ℕ → ℕ → ℕ) (words : List ℕ) (held : Ho
   pub figures-held : (column i : ℕ) → column < width → i < n → figureAt width words column i ≡ f column i
   figures-held column i h b = held .words (i * width + column) (digits-lt b h) ∙ laid-at width f column i h
 
-  pub column-held : (column : ℕ) → column < width → sumTo n (figureAt width words column) ≡ sumTo n (f column)
+  column-held : (column : ℕ) → column < width → sumTo n (figureAt width words column) ≡ sumTo n (f column)
   column-held column h = sum-eq n (figureAt width words column) (f column) (λ i b. figures-held column i h b)
 
-  pub where-held : (column : ℕ) → column < width → (numberOf : ℕ → ℕ) (number : ℕ)
+  where-held : (column : ℕ) → column < width → (numberOf : ℕ → ℕ) (number : ℕ)
       → sumWhere n numberOf (figureAt width words column) number ≡ sumWhere n numberOf (f column) number
   where-held column h numberOf number =
       where-eq n numberOf (figureAt width words column) number (f column) (λ i b e. figures-held column i h b)
@@ -84,12 +85,12 @@ module _ {m : Input} {charges chargesAfter credits creditsAfter : List ℕ} {r :
     credits-are = settled .credits-lent ∙ (rw (eq-eqb (r .number) 0 fine))
 
     -- the words that were written
-    charges-held : Holds (accountCount m * chargeWidth) (laid chargeWidth (chargeOf m)) chargesAfter
+    pub charges-held : Holds (accountCount m * chargeWidth) (laid chargeWidth (chargeOf m)) chargesAfter
     unfolding chargeWords
     charges-held =
         holds (accountCount m * chargeWidth) (laid chargeWidth (chargeOf m)) charges chargesAfter charges-are (all .good .frame .roomy .charges-fit)
 
-    credits-held : Holds (ownerCount m * creditWidth) (laid creditWidth (creditOf m)) creditsAfter
+    pub credits-held : Holds (ownerCount m * creditWidth) (laid creditWidth (creditOf m)) creditsAfter
     unfolding creditWords
     credits-held =
         holds (ownerCount m * creditWidth) (laid creditWidth (creditOf m)) credits creditsAfter credits-are (all .good .frame .roomy .credits-fit)

@@ -132,6 +132,10 @@ first-of-refusal : (a : Answer) → at (refuseLine a) 0 ≡ 114
 unfolding refuseLine lineText
 first-of-refusal a = refl
 
-pub lines-no-refusal : (m : Input) (a : Answer) → statementLines m ≢ refuseLine a
+pub lines-no-refusal : (accounts : ℕ) (charges : List ℕ) (owners : ℕ) (credits last : List ℕ) (a : Answer)
+    → linesText accounts charges owners credits (bytes "total") last ≢ refuseLine a
+lines-no-refusal accounts charges owners credits last a e = no-r accounts charges owners credits last (ap (λ l. at l 0) e ∙ first-of-refusal a)
+
+pub month-no-refusal : (m : Input) (a : Answer) → statementLines m ≢ refuseLine a
 unfolding statementLines
-lines-no-refusal m a e = no-r (accountCount m) _ (ownerCount m) _ _ (ap (λ l. at l 0) e ∙ first-of-refusal a)
+month-no-refusal m a = lines-no-refusal (accountCount m) _ (ownerCount m) _ _ a
