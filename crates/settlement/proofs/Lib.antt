@@ -7,5 +7,6 @@ pub mod Balance
 pub mod Accepting
 pub mod Parts
 pub mod Refusing
+pub mod Written
 pub mod Promises
 pub mod Unique

@@ -32,11 +32,21 @@ use Rattle.pool.specs.Accounts.{contributions, reserved, curtailed, accountUse}
 use Rattle.pool.specs.Network.{chargesIn, networkPots, networkCredit, requirements, nonzoneCredit, nonzoneRefusal, rate}
 use Rattle.pool.specs.Services.{creditIn, serviceCredit, zonePot, serviceIn, serviceCharge}
 use Rattle.settlement.specs.Settled.{answerOf, chargeOf, creditOf, Settled}
+use Rattle.settlement.specs.Columns.{
+  chargedNetwork,
+  chargedBlackStart,
+  chargedReactive,
+  creditedNetwork,
+  creditedNonzone,
+  creditedBlackStart,
+  creditedReactive,
+}
 use Rattle.settlement.specs.Accepted.{IsService, Accepted}
 use Rattle.settlement.proofs.Accepting.{answer-accepted, accepted-answer}
 use Rattle.settlement.proofs.Balance as balance
 use Rattle.settlement.specs.Refused.{Refused, Places}
 use Rattle.settlement.proofs.Refusing as refusing
+use Rattle.settlement.proofs.Written as written
 use Rattle.settlement.specs.Days.{contributionOn}
 use Rattle.settlement.proofs.Keys.{no-entry-of}
 use Rattle.settlement.proofs.Days as days
@@ -74,23 +84,23 @@ places-are-the-papers = refusing.places
 module _ {m : Input} {charges chargesAfter credits creditsAfter : List ℕ} {r : Answer} (settled : Settled m charges chargesAfter credits creditsAfter r) where
   -- a refusal changes none
   pub refusal-changes-nothing : r .number ≢ 0 → (chargesAfter ≡ charges) × (creditsAfter ≡ credits)
-  refusal-changes-nothing = refusing.refused-words settled
+  refusal-changes-nothing = written.refused-words settled
 
   -- acceptance writes each account's three charges and each owner's four credits ..
   pub charges-are-written : r .number ≡ 0 → (column a : ℕ) → column < chargeWidth → a < accountCount m
       → at chargesAfter (a * chargeWidth + column) ≡ chargeOf m column a
-  charges-are-written = refusing.charge-word settled
+  charges-are-written = written.charge-word settled
 
   pub credits-are-written : r .number ≡ 0 → (column o : ℕ) → column < creditWidth → o < ownerCount m
       → at creditsAfter (o * creditWidth + column) ≡ creditOf m column o
-  credits-are-written = refusing.credit-word settled
+  credits-are-written = written.credit-word settled
 
   -- .. and no word behind them
   pub charges-behind-stay : r .number ≡ 0 → (k : ℕ) → accountCount m * chargeWidth ≤ k → at chargesAfter k ≡ at charges k
-  charges-behind-stay = refusing.behind-charges settled
+  charges-behind-stay = written.behind-charges settled
 
   pub credits-behind-stay : r .number ≡ 0 → (k : ℕ) → ownerCount m * creditWidth ≤ k → at creditsAfter k ≡ at credits k
-  credits-behind-stay = refusing.behind-credits settled
+  credits-behind-stay = written.behind-credits settled
 
 module _ {m : Input} {lentCharges lentCredits : ℕ} (all : Accepted m lentCharges lentCredits) where
   open Tables (m .tables) using (zones, owners, units, accounts, loads, reservations)
@@ -227,6 +237,52 @@ module _ {m : Input} {lentCharges lentCredits : ℕ} (all : Accepted m lentCharg
   credit-among-zone-owners o z b h e =
       parts.credit-from-own-zone all o z b h e
       ∙ amount-alone (networkPots m) z (all .network-fine .zones-fine z h) o b (eq-eqb (ownerZone owners o) (zoneNumber zones z) e)
+
+-- the balance of an accepted month in the words that were written: nothing is spoken of but these and the month's tables
+module _ {m : Input} {charges chargesAfter credits creditsAfter : List ℕ} {r : Answer} (settled : Settled m charges chargesAfter credits creditsAfter r)
+    (fine : r .number ≡ 0) where
+  open Tables (m .tables) using (zones, owners, accounts)
+
+  -- in each zone the network charges of the accounts whose zone has its number add up to the network credits of the owners whose zone has it
+  pub written-zone-charges-are-credits : (z : ℕ) → z < zoneCount m
+      → sumWhere (accountCount m) (accountZone accounts) (chargedNetwork chargesAfter) (zoneNumber zones z)
+      ≡ sumWhere (ownerCount m) (ownerZone owners) (creditedNetwork creditsAfter) (zoneNumber zones z)
+  written-zone-charges-are-credits z b =
+      written.charges-of-zone settled fine (zoneNumber zones z)
+      ∙ zone-charges-are-credits (written.all settled fine) z b
+      ∙ sym (written.credits-of-zone settled fine (zoneNumber zones z))
+
+  -- the network charges of zone 0's accounts add up to the non-zone credits of all owners
+  pub written-zone-0-charges-are-nonzone-credits :
+      sumWhere (accountCount m) (accountZone accounts) (chargedNetwork chargesAfter) 0 ≡ sumTo (ownerCount m) (creditedNonzone creditsAfter)
+  unfolding creditOf
+  written-zone-0-charges-are-nonzone-credits =
+      written.charges-of-zone settled fine 0
+      ∙ zone-0-charges-are-nonzone-credits (written.all settled fine)
+      ∙ sym (written.credits-of-column settled fine 1 (omega arith))
+
+  -- over the pool the charges for black start are its credits ..
+  pub written-black-start-charges-are-credits :
+      sumTo (accountCount m) (chargedBlackStart chargesAfter) ≡ sumTo (ownerCount m) (creditedBlackStart creditsAfter)
+  unfolding chargeOf creditOf
+  written-black-start-charges-are-credits =
+      written.charges-of-column settled fine 1 (omega arith)
+      ∙ service-charges-are-credits (written.all settled fine) blackStart (inl refl)
+      ∙ sym (written.credits-of-column settled fine 2 (omega arith))
+
+  -- .. and those for reactive
+  pub written-reactive-charges-are-credits :
+      sumTo (accountCount m) (chargedReactive chargesAfter) ≡ sumTo (ownerCount m) (creditedReactive creditsAfter)
+  unfolding chargeOf creditOf
+  written-reactive-charges-are-credits =
+      written.charges-of-column settled fine 2 (omega arith)
+      ∙ service-charges-are-credits (written.all settled fine) reactive (inr refl)
+      ∙ sym (written.credits-of-column settled fine 3 (omega arith))
+
+  -- all words that were written to the charges add up to the same as all that were written to the credits
+  pub all-written-charges-are-credits : sumTo (accountCount m * chargeWidth) (at chargesAfter) ≡ sumTo (ownerCount m * creditWidth) (at creditsAfter)
+  all-written-charges-are-credits =
+      written.all-charges settled fine ∙ all-charges-are-credits (written.all settled fine) ∙ sym (written.all-credits settled fine)
 
 -- "A missing load day is zero"
 pub missing-day-is-zero : (m : Input) (a day : ℕ)

@@ -1,18 +1,11 @@
--- A settlement is refused exactly by its tables, or at the first division that is not fine; and the words of the lent outputs after
--- a settlement, one by one.
+-- A settlement is refused exactly by its tables, or at the first division that is not fine.
 -- Assumes nothing.
 use mathlib.Core.Path.{_≡_, refl, sym, ap, ap₂, _∙_, subst}
 use mathlib.Core.Logic.{_↔_, _≢_}
-use mathlib.Core.List.{List}
-use Prim.Native.Nat.{ℕ, _+_, _*_, _≤_, _<_}
+use Prim.Native.Nat.{ℕ, _+_, _<_}
 use native.Mathlib.Nat.{zero-add}
 use native.Mathlib.Omega.{arith}
-use lib.Arith.{digits-div, digits-mod, digits-lt}
-use lib.ListN.{length}
-use borrow.Author.Tests.{eq-eqb, ne-eqb}
-use Rattle.lists.specs.Sums.{at, total}
-use Rattle.lists.specs.Entries.{put}
-use Rattle.lists.proofs.Entries.{at-put, put-ahead}
+use Rattle.lists.specs.Sums.{total}
 use Rattle.answer.specs.declared.Answer.{Answer}
 use Rattle.answer.specs.Numbers.{divisions}
 use Rattle.answer.specs.Turns.{refuse, refusal}
@@ -23,17 +16,16 @@ use Rattle.groups.specs.Groups as groups
 use Rattle.groups.proofs.Laws.{all-accepted}
 use Rattle.service.specs.Turn as service
 use Rattle.service.proofs.Turns.{fine-accepted, refused-exactly}
-use Rattle.tables.specs.Shape.{chargeWidth, creditWidth}
 use Rattle.tables.specs.Columns.{zoneNumber}
 use Rattle.tables.specs.Limits.{blackStart, reactive}
 use Rattle.judgement.proofs.Reasons as judgement
-use Rattle.pool.specs.Input.{Input, zoneCount, ownerCount, accountCount}
+use Rattle.pool.specs.Input.{Input, zoneCount}
 use Rattle.pool.specs.Network.{chargesIn, networkPots, requirements, nonzoneRefusal}
 use Rattle.pool.specs.Services.{serviceIn}
-use Rattle.settlement.specs.Settled.{networkPlace, nonzonePlace, blackStartPlace, reactivePlace, laid, networkInTurn, divisionsInTurn, answerOf, chargeOf, creditOf, chargeWords, creditWords, Settled}
-use Rattle.settlement.specs.Accepted.{ZonesFine, Accepted}
+use Rattle.settlement.specs.Settled.{networkPlace, nonzonePlace, blackStartPlace, reactivePlace, networkInTurn, divisionsInTurn, answerOf}
+use Rattle.settlement.specs.Accepted.{ZonesFine}
 use Rattle.settlement.specs.Refused.{Refused, by-tables, at-zone, at-nonzone, in-black-start, in-reactive, Places}
-use Rattle.settlement.proofs.Accepting.{answer-accepted, answer-why, tables-accept, network-accepts}
+use Rattle.settlement.proofs.Accepting.{answer-why, tables-accept, network-accepts}
 
 module _ (m : Input) (lentCharges lentCredits : ℕ) where
   abbrev zones-answer : Answer
@@ -124,49 +116,3 @@ places m =
       reactive-share = λ i. omega arith;
       reactive-nonzone = omega arith;
     }
-
--- one figure of rows that were laid end to end, and the words behind them
-module _ (count width : ℕ) (figure : ℕ → ℕ → ℕ) (lent : List ℕ) where
-  pub figure-there : count * width ≤ length lent → (column i : ℕ) → column < width → i < count
-      → at (put (count * width) (laid width figure) lent) (i * width + column) ≡ figure column i
-  figure-there room column i h b =
-      at-put (count * width) (laid width figure) lent room (i * width + column) (digits-lt b h)
-      ∙ ap₂ figure (digits-mod i h) (digits-div i h)
-
-  pub words-behind : (k : ℕ) → count * width ≤ k → at (put (count * width) (laid width figure) lent) k ≡ at lent k
-  words-behind k h = put-ahead (count * width) (laid width figure) lent k h
-
-module _ {m : Input} {charges chargesAfter credits creditsAfter : List ℕ} {r : Answer} (settled : Settled m charges chargesAfter credits creditsAfter r) where
-  pub refused-words : r .number ≢ 0 → (chargesAfter ≡ charges) × (creditsAfter ≡ credits)
-  refused-words bad =
-      (settled .charges-lent ∙ (rw (ne-eqb (r .number) 0 bad)), settled .credits-lent ∙ (rw (ne-eqb (r .number) 0 bad)))
-
-  module _ (fine : r .number ≡ 0) where
-    all : Accepted m (length charges) (length credits)
-    all = answer-accepted m (length charges) (length credits) (ap (λ (a : Answer). a .number) (sym (settled .answer)) ∙ fine)
-
-    charges-are : chargesAfter ≡ chargeWords m charges
-    charges-are = settled .charges-lent ∙ (rw (eq-eqb (r .number) 0 fine))
-
-    credits-are : creditsAfter ≡ creditWords m credits
-    credits-are = settled .credits-lent ∙ (rw (eq-eqb (r .number) 0 fine))
-
-    pub charge-word : (column a : ℕ) → column < chargeWidth → a < accountCount m → at chargesAfter (a * chargeWidth + column) ≡ chargeOf m column a
-    unfolding chargeWords
-    charge-word column a h b =
-        ap (λ l. at l (a * chargeWidth + column)) charges-are
-        ∙ figure-there (accountCount m) chargeWidth (chargeOf m) charges (all .good .frame .roomy .charges-fit) column a h b
-
-    pub credit-word : (column o : ℕ) → column < creditWidth → o < ownerCount m → at creditsAfter (o * creditWidth + column) ≡ creditOf m column o
-    unfolding creditWords
-    credit-word column o h b =
-        ap (λ l. at l (o * creditWidth + column)) credits-are
-        ∙ figure-there (ownerCount m) creditWidth (creditOf m) credits (all .good .frame .roomy .credits-fit) column o h b
-
-    pub behind-charges : (k : ℕ) → accountCount m * chargeWidth ≤ k → at chargesAfter k ≡ at charges k
-    unfolding chargeWords
-    behind-charges k h = ap (λ l. at l k) charges-are ∙ words-behind (accountCount m) chargeWidth (chargeOf m) charges k h
-
-    pub behind-credits : (k : ℕ) → ownerCount m * creditWidth ≤ k → at creditsAfter k ≡ at credits k
-    unfolding creditWords
-    behind-credits k h = ap (λ l. at l k) credits-are ∙ words-behind (ownerCount m) creditWidth (creditOf m) credits k h

@@ -1,4 +1,5 @@
 pub mod Settled
+pub mod Columns
 pub mod Accepted
 pub mod Refused
 pub mod Days

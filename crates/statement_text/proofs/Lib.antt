@@ -4,6 +4,7 @@ pub mod Totals
 pub mod Settling
 pub mod Stating
 pub mod Sizes
+pub mod Printing
 pub mod Telling
 pub mod Promises
 pub mod Unique

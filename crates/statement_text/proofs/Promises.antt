@@ -1,5 +1,5 @@
 -- What is promised of every statement, beyond its definition. Nothing else stands here; the proofs cite `Totals`, `Stating`,
--- `Sizes` and `Telling`.
+-- `Sizes`, `Printing` and `Telling`.
 -- Assumes nothing.
 use mathlib.Core.Path.{_≡_, ap, _∙_}
 use mathlib.Core.Logic.{_≢_}
@@ -8,6 +8,7 @@ use Prim.Native.Nat.{ℕ, _≤_, _<_}
 use lib.ListN.{length}
 use Rattle.answer.specs.declared.Answer.{Answer}
 use Rattle.answer.specs.Turns.{refuse}
+use Rattle.tables.specs.Shape.{chargeWidth, creditWidth}
 use Rattle.text.specs.Bytes.{bytes}
 use Rattle.text.specs.Numbers.{digits, decimal, Below}
 use Rattle.text.specs.Lines.{fieldsText, lineText}
@@ -26,15 +27,34 @@ use Rattle.statement_text.specs.Statement.{
   mostShown,
   statementOf,
 }
+use Rattle.statement_text.specs.Printed.{Lines, Printed, figuresIn, linesOf}
 use Rattle.statement_text.specs.Told.{SameFigures}
 use Rattle.statement_text.proofs.Totals as totals
 use Rattle.statement_text.proofs.Stating as stating
 use Rattle.statement_text.proofs.Sizes as sizes
+use Rattle.statement_text.proofs.Printing as printing
 use Rattle.statement_text.proofs.Telling as telling
 
 -- the two numbers of `total` are equal for every accepted month
 pub totals-are-equal : (m : Input) → settledAnswer m .number ≡ 0 → allCharges m ≡ allCredits m
 totals-are-equal m e = totals.totals-equal (stating.fine m e)
+
+-- whatever text is stated: where its statement is lines of charges, lines of credits and a line of totals, the two numbers of `total`
+-- are the sums of the figures in the lines above it, and are equal
+pub totals-are-of-the-lines : (text : List ℕ) (l : Lines) → Printed (statementOf text) l
+    → (l .chargeTotal ≡ figuresIn chargeWidth (l .charges)) × (l .creditTotal ≡ figuresIn creditWidth (l .credits))
+totals-are-of-the-lines text l p = (printing.printed-totalled text l p .0, printing.printed-totalled text l p .1)
+
+pub printed-totals-are-equal : (text : List ℕ) (l : Lines) → Printed (statementOf text) l → l .chargeTotal ≡ l .creditTotal
+printed-totals-are-equal text l p = printing.printed-totalled text l p .2
+
+-- an accepted month's statement is such lines: its accounts with their charges, its owners with their credits, and both totals ..
+pub accepted-is-printed : (m : Input) → settledAnswer m .number ≡ 0 → Printed (statementLines m) (linesOf m)
+accepted-is-printed m e = printing.month-printed (stating.fine m e)
+
+-- .. and a text is lines in one way
+pub lines-are-read-in-one-way : (text : List ℕ) (l l′ : Lines) → Printed text l → Printed text l′ → l ≡ l′
+lines-are-read-in-one-way text l l′ = printing.printed-once
 
 -- two accepted months with the same statement have the same accounts with the same charges and the same owners with the same
 -- credits: where a charge or a credit differs, so do the statements
@@ -44,7 +64,7 @@ statements-tell-figures-apart m m′ e e′ = telling.same-statement (stating.fi
 
 -- an accepted month's statement is never the line of a refusal
 pub accepted-is-no-refusal : (m : Input) (a : Answer) → statementLines m ≢ refuseLine a
-accepted-is-no-refusal = sizes.lines-no-refusal
+accepted-is-no-refusal = sizes.month-no-refusal
 
 -- a file within the limit whose month is accepted has that month's lines: an accepted month is never refused
 pub accepted-is-stated : (text : List ℕ) (c : Contents) (rest : List ℕ) → length text ≤ mostBytes → reading monthForm text ≡ got c rest

@@ -3,19 +3,15 @@
 use mathlib.Core.Path.{_≡_, sym, ap, ap₂, _∙_, subst}
 use mathlib.Core.Logic.{_≢_}
 use mathlib.Core.List.{List, []}
-use Prim.Native.Nat.{ℕ, _*_, _/_, _≤_}
-use native.Mathlib.Nat.{le-trans, le-of-eq, mul-div-left}
-use native.Mathlib.Omega.{arith}
+use Prim.Native.Nat.{ℕ, _*_, _/_}
+use native.Mathlib.Nat.{mul-div-left}
 use lib.ListN.{length}
 use lib.Seq.{getD-take}
-use borrow.Author.Tests.{eq-eqb}
 use Rattle.lists.specs.Sums.{at}
-use Rattle.lists.specs.Entries.{put}
-use Rattle.lists.proofs.Entries.{at-put, length-put}
 use Rattle.answer.specs.declared.Answer.{Answer}
 use Rattle.tables.specs.declared.Table.{Table}
 use Rattle.tables.specs.declared.Table.the-variants.{Zones, Owners, Units, Accounts, Loads, Reservations}
-use Rattle.tables.specs.Shape.{width, chargeWidth, creditWidth, Tables, wordsOf}
+use Rattle.tables.specs.Shape.{width, Tables, wordsOf}
 use Rattle.tables.proofs.Places.{width-pos}
 use Rattle.monthfile.specs.declared.Reading.{Reading}
 use Rattle.monthfile.specs.Form.{monthForm}
@@ -24,9 +20,10 @@ use Rattle.monthfile.specs.Calls.{nth, placeOf, readAnswer, Reads, countIn}
 use Rattle.monthfile.proofs.Contents.{written-then-read}
 use Rattle.monthfile.proofs.ReadCalls.{outcome-full}
 use Rattle.monthfile.proofs.RoundTrips.{TableRead, TextRead, text-read}
-use Rattle.pool.specs.Input.{Input, inputOf, ownerCount, accountCount}
-use Rattle.settlement.specs.Settled.{laid, answerOf, chargeOf, creditOf, chargeWords, creditWords, Settled}
+use Rattle.pool.specs.Input.{Input, inputOf}
+use Rattle.settlement.specs.Settled.{answerOf, Settled}
 use Rattle.settlement.specs.Steps.{Holds}
+use Rattle.settlement.proofs.Written as written
 use Rattle.statement_text.specs.Statement.{settledAnswer, monthOf}
 use Rattle.statement_text.specs.Steps.{Front, monthIn, Lent, Laid, foundAnswer, FiguresFound}
 
@@ -98,24 +95,8 @@ module _ (text : List ℕ) (lent : Tables) (charges credits : List ℕ) (full : 
       unfolding settledAnswer
       answer-is = settled .answer ∙ ap₂ (answerOf m) (full .charges-full) (full .credits-full)
 
-      few-accounts : accountCount m * chargeWidth ≤ length charges
-      unfolding m own
-      few-accounts = omega (arith, rows-are Accounts, own-read Accounts .count-is, own-read Accounts .fits .few, full .charges-full)
-
-      few-owners : ownerCount m * creditWidth ≤ length credits
-      unfolding m own
-      few-owners = omega (arith, rows-are Owners, own-read Owners .count-is, own-read Owners .fits .few, full .credits-full)
-
-      -- words that were put at the front are held there
-      put-held : (n : ℕ) (f : ℕ → ℕ) (l k : List ℕ) → n ≤ length l → k ≡ put n f l → Holds n f k
-      put-held n f l k h e =
-          record {
-            long = le-trans h (le-of-eq (sym (ap length e ∙ length-put n f l)));
-            words = λ i b. ap (λ w. at w i) e ∙ at-put n f l h i b;
-          }
-
       laid-out : a .number ≡ 0 → Laid m (after .accounts) (after .owners) charges′ credits′ (record { answer = a; accounts = held .accounts; owners = held .owners })
-      unfolding m own chargeWords creditWords
+      unfolding m own
       laid-out y =
           record {
             accepted = sym (ap (λ (b : Answer). b .number) answer-is) ∙ y;
@@ -123,12 +104,8 @@ module _ (text : List ℕ) (lent : Tables) (charges credits : List ℕ) (full : 
             owner-rows = rows-are Owners;
             accounts-held = held-front Accounts;
             owners-held = held-front Owners;
-            charges-held =
-                put-held (accountCount m * chargeWidth) (laid chargeWidth (chargeOf m)) charges charges′ few-accounts
-                (settled .charges-lent ∙ rw (eq-eqb (a .number) 0 y));
-            credits-held =
-                put-held (ownerCount m * creditWidth) (laid creditWidth (creditOf m)) credits credits′ few-owners
-                (settled .credits-lent ∙ rw (eq-eqb (a .number) 0 y));
+            charges-held = written.charges-held settled y;
+            credits-held = written.credits-held settled y;
           }
 
       pub text-settled : FiguresFound text (after .accounts) (after .owners) charges′ credits′ (record { answer = a; accounts = held .accounts; owners = held .owners })

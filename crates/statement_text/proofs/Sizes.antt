@@ -2,20 +2,16 @@
 -- begins otherwise than a refusal.
 -- Assumes nothing.
 use mathlib.Core.Path.{_≡_, refl, sym, ap, _∙_}
-use mathlib.Core.Logic.{_≢_, ⊎-elim}
+use mathlib.Core.Logic.{_≢_}
 use mathlib.Core.Bool.{Bool, true, false, cond}
 use mathlib.Core.List.{List, [], _∷_, _++_}
-use Prim.Native.Nat.{ℕ, zero, suc, _+_, _*_, _/_, _%_, _≤_, _<_}
+use Prim.Native.Nat.{ℕ, zero, suc, _+_, _*_, _/_, _%_, _≤_}
 use native.Mathlib.Nat.{le-refl, le-trans, le-of-eq, suc-mul, mul-le-mul-right}
 use native.Mathlib.Omega.{arith}
 use lib.Dec.{ltb}
 use lib.ListN.{length, take, drop, length-append, length-take}
 use Rattle.lists.specs.Sums.{at}
-use Rattle.lists.proofs.Ranks.{lt-or-le}
 use Rattle.answer.specs.declared.Answer.{Answer}
-use Rattle.answer.specs.Numbers.{COUNT, head}
-use Rattle.answer.specs.Turns.{refuse}
-use Rattle.answer.proofs.Turns.{zero-or-not}
 use Rattle.tables.specs.declared.Table.the-variants.{Owners, Accounts}
 use Rattle.tables.specs.Shape.{limit, chargeWidth, creditWidth}
 use Rattle.text.specs.Bytes.{bytes}
@@ -23,17 +19,14 @@ use Rattle.text.specs.Numbers.{byteOf, digits, decimal}
 use Rattle.text.specs.Lines.{equals, separator, fieldsText, lineText}
 use Rattle.text.specs.Places.{stored}
 use Rattle.text.proofs.Stores.{length-stored}
-use Rattle.monthfile.specs.Form.{monthForm}
-use Rattle.monthfile.specs.Reading.{Outcome, got, refused, Contents, reading}
 use Rattle.monthfile.specs.Writing.{rowsText}
 use Rattle.pool.specs.Input.{Input, ownerCount, accountCount}
 use Rattle.settlement.specs.Accepted.{Accepted}
-use Rattle.settlement.proofs.Accepting.{answer-accepted}
-use Rattle.statement_text.specs.Statement.{linesText, statementLines, settledAnswer, refuseLine, monthOf, settledText, foundText, mostBytes, mostShown, statementOf}
 use Rattle.statement_text.specs.declared.Shown.{Shown}
+use Rattle.statement_text.specs.Statement.{linesText, statementLines, settledAnswer, refuseLine, mostBytes, mostShown, statementOf}
 use Rattle.statement_text.specs.Calls.{fitting, Shows, FileStated}
 use Rattle.statement_text.proofs.Showing.{fitting-all}
-use Rattle.statement_text.proofs.Stating.{settled-accepted, settled-refused, long-text, short-text}
+use Rattle.statement_text.proofs.Stating.{stated-as, fine}
 
 either-short : (t : Bool) (x y : List ℕ) (most : ℕ) → length x ≤ most → length y ≤ most → length (cond t x y) ≤ most
 either-short true x y most h k = h
@@ -102,30 +95,16 @@ refusal-short : (a : Answer) → length (refuseLine a) ≤ 10128
 unfolding refuseLine
 refusal-short a = le-trans (line-short (bytes "refuse") (a .number ∷ a .table ∷ a .row ∷ [])) (omega arith)
 
-settled-short : (m : Input) → length (settledText m) ≤ 10128
-unfolding statementLines settledAnswer
-settled-short m =
-    ⊎-elim
-    (λ (z : settledAnswer m .number ≡ 0).
-    let all : Accepted m (limit Accounts * chargeWidth) (limit Owners * creditWidth) =
-    answer-accepted m (limit Accounts * chargeWidth) (limit Owners * creditWidth) z in
+month-short : (m : Input) → settledAnswer m .number ≡ 0 → length (statementLines m) ≤ 10128
+unfolding statementLines
+month-short m z =
+    let all : Accepted m (limit Accounts * chargeWidth) (limit Owners * creditWidth) = fine m z in
     let few : accountCount m ≤ 32 = all .good .frame .counted Accounts .few in
     let others : ownerCount m ≤ 64 = all .good .frame .counted Owners .few in
-    le-trans (le-of-eq (ap length (settled-accepted m z)))
-    (le-trans (lines-short (accountCount m) _ (ownerCount m) _ _ _) (omega (arith, few, others))))
-    (λ (d : settledAnswer m .number ≢ 0). le-trans (le-of-eq (ap length (settled-refused m d))) (refusal-short (settledAnswer m)))
-    (zero-or-not (settledAnswer m .number))
-
-found-short : (o : Outcome Contents) → length (foundText o) ≤ 10128
-found-short (refused a) = refusal-short a
-found-short (got c rest) = settled-short (monthOf c)
+    le-trans (lines-short (accountCount m) _ (ownerCount m) _ _ _) (omega (arith, few, others))
 
 pub statement-short : (text : List ℕ) → length (statementOf text) ≤ 10128
-statement-short text =
-    ⊎-elim
-    (λ (h : mostBytes < length text). le-trans (le-of-eq (ap length (long-text text h))) (refusal-short (refuse COUNT head 0)))
-    (λ (h : length text ≤ mostBytes). le-trans (le-of-eq (ap length (short-text text h))) (found-short (reading monthForm text)))
-    (lt-or-le mostBytes (length text))
+statement-short = stated-as (λ l. length l ≤ 10128) refusal-short month-short
 
 -- in so much room every statement is shown whole
 pub file-stated : (held : List ℕ) (count : ℕ) (lent after : List ℕ) (s : Shown) → length held ≡ mostBytes + 1 → length lent ≡ mostShown
@@ -156,6 +135,10 @@ first-of-refusal : (a : Answer) → at (refuseLine a) 0 ≡ 114
 unfolding refuseLine lineText
 first-of-refusal a = refl
 
-pub lines-no-refusal : (m : Input) (a : Answer) → statementLines m ≢ refuseLine a
+pub lines-no-refusal : (accounts : ℕ) (charges : List ℕ) (owners : ℕ) (credits last : List ℕ) (a : Answer)
+    → linesText accounts charges owners credits (bytes "total") last ≢ refuseLine a
+lines-no-refusal accounts charges owners credits last a e = no-r accounts charges owners credits last (ap (λ l. at l 0) e ∙ first-of-refusal a)
+
+pub month-no-refusal : (m : Input) (a : Answer) → statementLines m ≢ refuseLine a
 unfolding statementLines
-lines-no-refusal m a e = no-r (accountCount m) _ (ownerCount m) _ _ (ap (λ l. at l 0) e ∙ first-of-refusal a)
+month-no-refusal m a = lines-no-refusal (accountCount m) _ (ownerCount m) _ _ a

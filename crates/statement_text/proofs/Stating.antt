@@ -1,15 +1,17 @@
 -- What is shown is the statement of the text: of one that is too long, one that is refused, one whose month is accepted.
 -- Assumes nothing.
 use mathlib.Core.Path.{_≡_, refl, sym, ap, _∙_, subst}
-use mathlib.Core.Logic.{_≢_}
+use mathlib.Core.Logic.{_≢_, ⊎-elim}
 use mathlib.Core.List.{List}
 use Prim.Native.Nat.{ℕ, _*_, _≤_, _<_}
 use native.Mathlib.Nat.{le-of-eq}
 use lib.ListN.{length, replicate, length-replicate}
 use borrow.Author.Tests.{lt-ltb, le-ltb, eq-eqb, ne-eqb}
+use Rattle.lists.proofs.Ranks.{lt-or-le}
 use Rattle.answer.specs.declared.Answer.{Answer}
 use Rattle.answer.specs.Numbers.{COUNT, head}
 use Rattle.answer.specs.Turns.{refuse}
+use Rattle.answer.proofs.Turns.{zero-or-not}
 use Rattle.tables.specs.declared.Table.{Table}
 use Rattle.tables.specs.declared.Table.the-variants.{Zones, Owners, Units, Accounts, Loads, Reservations}
 use Rattle.tables.specs.Shape.{width, limit, chargeWidth, creditWidth, tablesOf, wordsOf}
@@ -44,6 +46,26 @@ long-text text h = rw (lt-ltb mostBytes (length text) h)
 pub short-text : (text : List ℕ) → length text ≤ mostBytes → statementOf text ≡ foundText (reading monthForm text)
 unfolding statementOf
 short-text text h = rw (le-ltb mostBytes (length text) h)
+
+-- every statement is the line of a refusal or the lines of an accepted month, so that what is so of these is so of it
+pub stated-as : (P : List ℕ → Type 0) → ((a : Answer) → P (refuseLine a)) → ((m : Input) → settledAnswer m .number ≡ 0 → P (statementLines m))
+    → (text : List ℕ) → P (statementOf text)
+stated-as P refusal lines text =
+    ⊎-elim
+    (λ (h : mostBytes < length text). subst P (sym (long-text text h)) (refusal (refuse COUNT head 0)))
+    (λ (h : length text ≤ mostBytes). subst P (sym (short-text text h)) (by (reading monthForm text)))
+    (lt-or-le mostBytes (length text))
+  where
+    month : (m : Input) → P (settledText m)
+    month m =
+        ⊎-elim
+        (λ (z : settledAnswer m .number ≡ 0). subst P (sym (settled-accepted m z)) (lines m z))
+        (λ (d : settledAnswer m .number ≢ 0). subst P (sym (settled-refused m d)) (refusal (settledAnswer m)))
+        (zero-or-not (settledAnswer m .number))
+
+    by : (o : Outcome Contents) → P (foundText o)
+    by (refused a) = refusal a
+    by (got c rest) = month (monthOf c)
 
 module _ {text accounts owners charges credits : List ℕ} {r : Figures} (found : FiguresFound text accounts owners charges credits r) where
   pub state-rows : r .answer .number ≡ 0 → Figured Accounts chargeWidth (r .accounts) accounts charges × Figured Owners creditWidth (r .owners) owners credits

@@ -1,17 +1,16 @@
 -- The figures of an accepted month, row by row in lent words, are its lines, and add up to its totals, which fit a word.
 -- Assumes nothing.
-use mathlib.Core.Path.{_≡_, refl, sym, ap, ap₂, _∙_, subst}
+use mathlib.Core.Path.{_≡_, refl, sym, ap₂, _∙_, subst}
 use mathlib.Core.Logic.{inl, inr}
 use mathlib.Core.Bool.{Bool, true, false}
 use mathlib.Core.List.{List, [], _∷_}
 use Prim.Native.Nat.{ℕ, zero, suc, _+_, _*_, _/_, _%_, _≤_, _<_, _^_}
-use native.Mathlib.Nat.{add-zero, add-suc, add-assoc, suc-mul, zero-mul, mod-lt, div-lt-iff-lt-mul, le-trans, lt-of-le-of-lt, le-of-eq}
+use native.Mathlib.Nat.{mod-lt, div-lt-iff-lt-mul, le-trans, lt-of-le-of-lt, le-of-eq}
 use native.Mathlib.Omega.{arith}
-use lib.Arith.{digits-div, digits-mod, digits-lt}
 use lib.Dec.{eqb}
 use lib.ListN.{length}
 use Rattle.lists.specs.Sums.{sumTo, at, when}
-use Rattle.lists.proofs.Sums.{sum-eq, sum-at-most, sum-swap}
+use Rattle.lists.proofs.Sums.{sum-at-most}
 use Rattle.lists.proofs.Entries.{listed-eq}
 use Rattle.tables.specs.declared.Table.{Table}
 use Rattle.tables.specs.declared.Table.the-variants.{Owners, Units, Accounts}
@@ -25,40 +24,14 @@ use Rattle.pool.specs.Services.{unitCredit, creditIn, serviceCharge}
 use Rattle.settlement.specs.Settled.{laid, chargeOf, creditOf}
 use Rattle.settlement.specs.Accepted.{IsService, Accepted}
 use Rattle.pool.specs.Steps.{mostCharge, mostCredit}
-use Rattle.settlement.specs.Steps.{Holds}
 use Rattle.settlement.proofs.Accepting.{answer-accepted}
 use Rattle.settlement.proofs.Balance as balance
 use Rattle.settlement.proofs.Ranges.{charge-within, unit-credit-within}
+use Rattle.settlement.proofs.Written.{figures-held, sum-held}
 use Rattle.settlement.proofs.Promises as promises
 use Rattle.statement_text.specs.declared.figures.Figures.{Figures}
 use Rattle.statement_text.specs.Statement.{withNumber, rowsWith, linesText, allCharges, allCredits, statementLines, settledAnswer}
 use Rattle.statement_text.specs.Steps.{figureAt, Figured, monthLines, Laid}
-
--- a figure at its flat index
-pub laid-at : (width : ℕ) (f : ℕ → ℕ → ℕ) (column i : ℕ) → column < width → laid width f (i * width + column) ≡ f column i
-laid-at width f column i h = ap₂ f (digits-mod i h) (digits-div i h)
-
--- a sum over some positions, and then over others
-sum-on : (m n : ℕ) (f : ℕ → ℕ) → sumTo (m + n) f ≡ sumTo m f + sumTo n (λ i. f (m + i))
-unfolding sumTo
-sum-on m zero f = ap (λ k. sumTo k f) (add-zero m) ∙ sym (add-zero (sumTo m f))
-sum-on m (suc n) f =
-    ap (λ k. sumTo k f) (add-suc m n)
-    ∙ ap (λ s. s + f (m + n)) (sum-on m n f)
-    ∙ add-assoc (sumTo m f) (sumTo n (λ i. f (m + i))) (f (m + n))
-
--- all figures laid end to end add up row by row, and so column by column
-by-rows : (n width : ℕ) (f : ℕ → ℕ → ℕ) → sumTo (n * width) (laid width f) ≡ sumTo n (λ i. sumTo width (λ column. f column i))
-unfolding sumTo
-by-rows zero width f = ap (λ k. sumTo k (laid width f)) (zero-mul width)
-by-rows (suc n) width f =
-    ap (λ k. sumTo k (laid width f)) (suc-mul n width)
-    ∙ sum-on (n * width) width (laid width f)
-    ∙ ap₂ _+_ (by-rows n width f)
-    (sum-eq width (λ column. laid width f (n * width + column)) (λ column. f column n) (λ column h. laid-at width f column n h))
-
-pub flat-sum : (n width : ℕ) (f : ℕ → ℕ → ℕ) → sumTo (n * width) (laid width f) ≡ sumTo width (λ column. sumTo n (f column))
-flat-sum n width f = by-rows n width f ∙ sum-swap n width (λ i column. f column i)
 
 -- rows with the same numbers and the same figures are the same
 rows-same : (n width : ℕ) (number number′ : ℕ → ℕ) (figure figure′ : ℕ → ℕ → ℕ)
@@ -75,15 +48,6 @@ rows-same n width number number′ figure figure′ p q =
     by : (column i : ℕ) → column < width + 1 → i < n → withNumber number figure column i ≡ withNumber number′ figure′ column i
     by zero i h b = p i b
     by (suc column) i h b = q column i (omega arith) b
-
--- words that hold figures laid end to end
-figures-held : (n width : ℕ) (f : ℕ → ℕ → ℕ) (words : List ℕ) → Holds (n * width) (laid width f) words
-    → (column i : ℕ) → column < width → i < n → figureAt width words column i ≡ f column i
-figures-held n width f words held column i h b = held .words (i * width + column) (digits-lt b h) ∙ laid-at width f column i h
-
-sum-held : (n width : ℕ) (f : ℕ → ℕ → ℕ) (words : List ℕ) → Holds (n * width) (laid width f) words
-    → sumTo (n * width) (at words) ≡ sumTo width (λ column. sumTo n (f column))
-sum-held n width f words held = sum-eq (n * width) (at words) (laid width f) (held .words) ∙ flat-sum n width f
 
 when-within : (t : Bool) (x most : ℕ) → x ≤ most → when t x ≤ most
 when-within true x most h = h
