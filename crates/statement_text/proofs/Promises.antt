@@ -5,7 +5,8 @@ use mathlib.Core.Path.{_≡_, ap, _∙_}
 use mathlib.Core.Logic.{_≢_}
 use mathlib.Core.List.{List, [], _∷_}
 use Prim.Native.Nat.{ℕ, _≤_, _<_}
-use lib.ListN.{length}
+use native.Mathlib.Omega.{arith}
+use lib.ListN.{length, take, length-take}
 use Rattle.answer.specs.declared.Answer.{Answer}
 use Rattle.answer.specs.Turns.{refuse}
 use Rattle.tables.specs.Shape.{chargeWidth, creditWidth}
@@ -27,6 +28,7 @@ use Rattle.statement_text.specs.Statement.{
   mostShown,
   statementOf,
 }
+use Rattle.statement_text.specs.Calls.{FileStated}
 use Rattle.statement_text.specs.Printed.{Lines, Printed, figuresIn, linesOf}
 use Rattle.statement_text.specs.Told.{SameFigures}
 use Rattle.statement_text.proofs.Totals as totals
@@ -89,6 +91,12 @@ lines-tell-refusals-apart = telling.same-refusal
 pub too-long-is-refused : (text : List ℕ) → mostBytes < length text → statementOf text ≡ bytes "refuse=1,0,0\n"
 unfolding refuse refuseLine lineText fieldsText decimal digits
 too-long-is-refused text h = stating.long-text text h
+
+-- .. also where no more of it is held than what tells it: whatever the bytes behind are, one too many has been read
+pub too-long-is-seen : (held : List ℕ) (count : ℕ) (lent after : List ℕ) (r : ℕ) → FileStated held count lent after r → mostBytes < count
+    → statementOf (take count held) ≡ bytes "refuse=1,0,0\n"
+too-long-is-seen held count lent after r stated h =
+    too-long-is-refused (take count held) (simp length-take (omega (arith, stated .one-more)))
 
 -- no statement has more than `mostShown` bytes, 10,128, so that no room of that size is too short
 pub statement-is-short : (text : List ℕ) → length (statementOf text) ≤ mostShown
