@@ -21,8 +21,8 @@ unfoldable pub squares : ℕ → List ℕ → List ℕ → ℕ
 squares pot weights amounts =
     sumTo (length weights) (λ i. distance pot weights amounts i * distance pot weights amounts i)
 
--- what the check's yes stands for: no other list with that sum lies closer to the exact shares, among all lists of whole numbers of the same
--- length
+-- "no other such list with that sum lies closer to the exact shares": none of all lists of whole numbers of the same length. The check's
+-- yes stands for this and for a sum that is the pot
 pub record Closest (pot : ℕ) (weights amounts : List ℕ) : Type 0 where
   pub none-closer : (others : List ℕ) → length others ≡ length weights → total others ≡ total amounts
       → squares pot weights amounts ≤ squares pot weights others

@@ -5,8 +5,7 @@ use mathlib.Core.List.{[], _∷_}
 use Rattle.answer.specs.Numbers.{BASE}
 use Rattle.division.specs.Limits.{divideRefusal}
 use Rattle.division.specs.Shares.{memory}
-use Rattle.verdict.specs.Check.{verdict}
-use Rattle.verdict.specs.declared.Verdict.the-variants.{Yes, No}
+use Rattle.verdict.specs.Check.{verdict, yes, no, meaning}
 use Rattle.month.specs.Quantities.{networkCharge}
 use Rattle.month.specs.Months.{twelfth}
 use Rattle.text.specs.Bytes.{bytes}
@@ -26,10 +25,10 @@ pub record Starred : Type 0 where
   -- 0 by nothing is accepted, 1 by nothing has no base
   pub D7 : divideRefusal 0 [] 0 ≡ 0
   pub D7-baseless : divideRefusal 1 [] 0 ≡ BASE
-  -- of 2 by 1, 1, 1, 1 any closest list passes, and no other
-  pub C1 : verdict 2 (1 ∷ 1 ∷ 1 ∷ 1 ∷ []) (0 ∷ 1 ∷ 0 ∷ 1 ∷ []) ≡ Yes
-  pub C1-other : verdict 2 (1 ∷ 1 ∷ 1 ∷ 1 ∷ []) (2 ∷ 0 ∷ 0 ∷ 0 ∷ []) ≡ No
-  pub C2 : verdict 100 (1 ∷ 2 ∷ 4 ∷ []) (15 ∷ 28 ∷ 57 ∷ []) ≡ No
+  -- of 2 by 1, 1, 1, 1 a closest list that ties with ours passes, and one that is further off does not; nor does 15, 28, 57 of 100 by 1, 2, 4
+  pub C1 : meaning (verdict 2 (1 ∷ 1 ∷ 1 ∷ 1 ∷ []) (0 ∷ 1 ∷ 0 ∷ 1 ∷ [])) .says ≡ yes
+  pub C1-other : meaning (verdict 2 (1 ∷ 1 ∷ 1 ∷ 1 ∷ []) (2 ∷ 0 ∷ 0 ∷ 0 ∷ [])) .says ≡ no
+  pub C2 : meaning (verdict 100 (1 ∷ 2 ∷ 4 ∷ []) (15 ∷ 28 ∷ 57 ∷ [])) .says ≡ no
   -- 3,000 tenths in the month at 1,471,400
   pub N1 : networkCharge 3_000 1_471_400 ≡ 1_209_370
   -- annual 100: months 1, 2, 3

@@ -108,6 +108,16 @@ module _ (pot : ℕ) (weights amounts : List ℕ) where
             ∙ no-word said (verdicts.no-exactly pot (numbers weights) (numbers amounts) .1 (c .2, c .3)),
       )
 
+  -- so 256 is the check's yes to the numbers ..
+  pub says-yes : hostVerdict pot weights amounts ≡ 256 → meaning (verdict pot (numbers weights) (numbers amounts)) .says ≡ yes
+  says-yes e =
+      let c = yes-exactly .0 e in
+      verdicts.yes-exactly pot (numbers weights) (numbers amounts) .1 (c .2, c .3, c .4)
+
+  pub yes-said : WholeWords weights amounts → meaning (verdict pot (numbers weights) (numbers amounts)) .says ≡ yes → hostVerdict pot weights amounts ≡ 256
+  yes-said w s = judged w ∙ yes-word (verdict pot (numbers weights) (numbers amounts)) s
+
+  -- .. and any other answer but 0 a refusal
   refused-back : (n : ℕ) → HostCheckRefused pot weights amounts n → (hostVerdict pot weights amounts ≡ n) × (n ≢ 0) × (n ≢ 256)
   refused-back n (by-uneven e d) = (uneven d ∙ sym e, (λ z. omega arith), λ z. omega arith)
   refused-back n (by-numbers e f why) =

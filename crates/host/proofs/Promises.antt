@@ -9,12 +9,13 @@ use native.Mathlib.Nat.{le-trans}
 use lib.ListN.{length, take, drop}
 use Rattle.lists.specs.Sums.{at, total}
 use Rattle.answer.specs.Numbers.{COUNT, ROOM}
-use Rattle.closeness.specs.Closeness.{Closest}
+use Rattle.closeness.specs.Closeness.{distance, Closest}
 use Rattle.division.specs.Limits.{divideRefusal}
 use Rattle.division.specs.Shares.{shares}
 use Rattle.verdict.specs.Check.{verdict, meaning}
 use Rattle.verdict.specs.Refused.{FineCheck}
 use Rattle.statement_text.proofs.Promises.{statement-is-short}
+use Rattle.verdict.proofs.Laws as verdicts
 use Rattle.host.specs.Words.{numbers, bytes}
 use Rattle.statement_text.specs.Statement.{statementOf, mostShown}
 use Rattle.host.specs.Calls.{word, hostDivideRefusal, hostMemory, HostDivided, valueOf, hostVerdict, HostStated}
@@ -47,7 +48,7 @@ pub refusal-leaves-bytes : (pot : ℕ) (weights amounts : List ℕ) → hostDivi
     → hostMemory pot weights amounts ≡ amounts
 refusal-leaves-bytes = reading.memory-refused
 
--- no byte behind the amounts is touched, and none is added
+-- no byte behind the shares is touched, and none is added
 pub bytes-behind-untouched : (pot : ℕ) (weights amounts : List ℕ)
     → (drop (length weights) (hostMemory pot weights amounts) ≡ drop (length weights) amounts)
     × (length (hostMemory pot weights amounts) ≡ length amounts)
@@ -58,7 +59,7 @@ pub uneven-divide-count : (pot : ℕ) (weights amounts : List ℕ) → (length w
     → hostDivideRefusal pot weights amounts ≡ COUNT
 uneven-divide-count pot weights amounts d = calls.divide-uneven pot weights amounts (reading.uneven weights amounts d)
 
--- .. and for the check, which then has no value
+-- .. and for the check, whose value is then 0
 pub uneven-check-count : (pot : ℕ) (weights amounts : List ℕ) → (length weights % 8 ≢ 0) ⊎ (length amounts % 8 ≢ 0)
     → hostVerdict pot weights amounts ≡ word COUNT 0
 uneven-check-count = judged.uneven
@@ -101,6 +102,21 @@ module _ (pot : ℕ) (weights amounts : List ℕ) where
   pub check-refused-exactly : (n : ℕ)
       → ((hostVerdict pot weights amounts ≡ n) × (n ≢ 0) × (n ≢ 256)) ↔ HostCheckRefused pot weights amounts n
   check-refused-exactly = judged.refused-exactly pot weights amounts
+
+  -- each amount that it passes is less than one cent from its exact share
+  pub check-passed-within-a-cent : 0 < total (numbers weights) → hostVerdict pot weights amounts ≡ 256
+      → (i : ℕ) → i < length (numbers weights) → distance pot (numbers weights) (numbers amounts) i < total (numbers weights)
+  check-passed-within-a-cent some e =
+      verdicts.passed-within-a-cent pot (numbers weights) (numbers amounts) some (judged.says-yes pot weights amounts e)
+
+-- "For W and P both zero it says yes exactly when all amounts are zero"
+pub check-of-nothing : (weights amounts : List ℕ) → length weights % 8 ≡ 0 → length amounts % 8 ≡ 0 → FineCheck 0 (numbers weights) (numbers amounts)
+    → total (numbers weights) ≡ 0 → (hostVerdict 0 weights amounts ≡ 256) ↔ ((i : ℕ) → at (numbers amounts) i ≡ 0)
+check-of-nothing weights amounts e f fine none =
+    let zeros = verdicts.no-base-no-amounts (numbers weights) (numbers amounts) fine none in (
+      (λ y. zeros .0 (judged.says-yes 0 weights amounts y)),
+      λ z. judged.yes-said 0 weights amounts (record { these-whole = e; those-whole = f }) (zeros .1 z),
+    )
 
 -- the check's call passes the bytes of every division that the other call makes
 pub divisions-pass : (pot : ℕ) (weights before after : List ℕ) (r : ℕ) → HostDivided pot weights before after r → r ≡ 0

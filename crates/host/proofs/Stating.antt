@@ -4,21 +4,20 @@ use mathlib.Core.Path.{_≡_, refl, sym, ap, ap₂, _∙_}
 use mathlib.Core.Logic.{⊎-elim}
 use mathlib.Core.List.{List, [], _++_}
 use Prim.Native.Nat.{ℕ, _≤_, _<_}
-use native.Mathlib.Nat.{le-trans, le-of-eq, zero-add}
+use native.Mathlib.Nat.{le-trans, le-of-eq}
 use native.Mathlib.Omega.{arith}
 use lib.ListN.{length, drop}
-use borrow.Author.Tests.{lt-ltb, le-ltb}
 use Rattle.lists.proofs.Ranks.{lt-or-le}
 use Rattle.answer.specs.declared.Answer.{Answer}
 use Rattle.answer.specs.Numbers.{ROOM, head}
 use Rattle.answer.proofs.Turns.{refuse-none, refuse-number}
 use Rattle.text.specs.Places.{stored}
-use Rattle.text.proofs.Stores.{stored-is, stored-none}
+use Rattle.text.proofs.Stores.{stored-in-front, stored-none}
 use Rattle.monthfile.proofs.Rooms.{room-short, room-enough}
 use Rattle.statement_text.specs.declared.Shown.{Shown}
 use Rattle.statement_text.specs.Statement.{statementOf}
 use Rattle.statement_text.specs.Calls.{fitting, Shows}
-use Rattle.statement_text.proofs.Showing.{fitting-short}
+use Rattle.statement_text.proofs.Showing.{fitting-all, fitting-none, fitting-short}
 use Rattle.statement_text.proofs.Promises.{statement-is-short}
 use Rattle.host.specs.Calls.{word, HostStated}
 
@@ -51,9 +50,8 @@ module _ (text before after : List ℕ) (s : Shown) (shows : Shows (statementOf 
 -- where there is no room, ROOM is all, and nothing is written
 pub statement-without-room : (text before after : List ℕ) (r : ℕ) → HostStated text before after r → length before < length (statementOf text)
     → (r ≡ word ROOM 0) × (after ≡ before)
-unfolding fitting
 statement-without-room text before after r h short =
-    let none : fitting (statementOf text) (length before) ≡ [] = rw (lt-ltb (length before) (length (statementOf text)) short) in (
+    let none : fitting (statementOf text) (length before) ≡ [] = fitting-none (statementOf text) (length before) short in (
       h .answer
           ∙ ap₂ word
           (ap (λ (a : Answer). a .number) (sym (room-short head (length (statementOf text)) (length before) short)) ∙ refuse-number ROOM head 0)
@@ -64,12 +62,10 @@ statement-without-room text before after r h short =
 -- where there is room, it stands first, and its length is the answer's value
 pub statement-with-room : (text before after : List ℕ) (r : ℕ) → HostStated text before after r → length (statementOf text) ≤ length before
     → (r ≡ word 0 (length (statementOf text))) × (after ≡ statementOf text ++ drop (length (statementOf text)) before)
-unfolding fitting
 statement-with-room text before after r h enough =
-    let all : fitting (statementOf text) (length before) ≡ statementOf text = rw (le-ltb (length before) (length (statementOf text)) enough) in (
+    let all : fitting (statementOf text) (length before) ≡ statementOf text = fitting-all (statementOf text) (length before) enough in (
       h .answer
           ∙ ap₂ (λ (a : Answer) l. word (a .number) (length l))
           (sym (room-enough head (length (statementOf text)) (length before) enough) ∙ refuse-none 0 head 0 refl) all,
-      h .lent ∙ ap (stored before 0) all ∙ stored-is before 0 (statementOf text) (omega arith)
-          ∙ ap (λ n. statementOf text ++ drop n before) (zero-add (length (statementOf text))),
+      h .lent ∙ ap (stored before 0) all ∙ stored-in-front before (statementOf text) enough,
     )

@@ -18,10 +18,11 @@ use Rattle.statement_text.specs.Statement.{statementOf}
 use Rattle.statement_text.specs.Calls.{fitting}
 use Rattle.host.specs.Words.{wordBytes, isUneven, numbers, bytes}
 
--- one word for an answer: the refusal's number in the low byte, the value above it
+-- one word for an answer: the refusal's number in the low byte, the value above it. So packed by us: the paper leaves it open
 abbrev pub word : ℕ → ℕ → ℕ
 word number value = number + 256 * value
 
+-- "a byte length that isn't a multiple of eight is COUNT", then what the division looks at
 unfoldable pub hostDivideRefusal : ℕ → List ℕ → List ℕ → ℕ
 hostDivideRefusal pot weights amounts =
     look (isUneven (length weights) (length amounts)) COUNT (divideRefusal pot (numbers weights) (length amounts / wordBytes))
@@ -51,9 +52,9 @@ verdictWord said = word (meaning said .number) (valueOf (meaning said .says))
 -- What `noketualo_check` answers.
 unfoldable pub hostVerdict : ℕ → List ℕ → List ℕ → ℕ
 hostVerdict pot weights amounts =
-    look (isUneven (length weights) (length amounts)) COUNT (verdictWord (verdict pot (numbers weights) (numbers amounts)))
+    look (isUneven (length weights) (length amounts)) (word COUNT 0) (verdictWord (verdict pot (numbers weights) (numbers amounts)))
 
--- What `noketualo_statement` answers and leaves in the lent bytes: ROOM and nothing, or the statement and its length. A month that
+-- What `noketualo_statement`, a call of ours beside the paper's two, answers and leaves in the lent bytes: ROOM and nothing, or the statement and its length. A month that
 -- is refused has a statement too, so the answer's number is then 0.
 pub record HostStated (text before after : List ℕ) (r : ℕ) : Type 0 where
   pub answer : r ≡ word (roomFor head (length (statementOf text)) (length before) .number) (length (fitting (statementOf text) (length before)))

@@ -32,7 +32,7 @@ module _ (month days nonzone : ℕ) (t : Tables) (lentCharges lentCredits : ℕ)
   pub unrefused-good : judged month days nonzone t lentCharges lentCredits .number ≡ 0 → GoodMonth month days nonzone t lentCharges lentCredits
   unrefused-good = judged-good month days nonzone t lentCharges lentCredits
 
-  -- .. and a good month is never refused
+  -- .. and none that keeps them is refused here; its divisions come after
   pub good-accepted : GoodMonth month days nonzone t lentCharges lentCredits → judged month days nonzone t lentCharges lentCredits ≡ accepted
   good-accepted good = good-unrefused month days nonzone t lentCharges lentCredits good
 

@@ -14,6 +14,7 @@ use Rattle.lists.specs.Sums.{sumTo, at}
 use Rattle.lists.specs.Entries.{listed}
 use Rattle.lists.proofs.Sums.{le-sum, sum-eq, sum-swap}
 use Rattle.lists.proofs.Entries.{length-listed, at-listed}
+use Rattle.answer.specs.declared.Answer.{Answer}
 use Rattle.tables.specs.declared.Table.the-variants.{Owners, Accounts}
 use Rattle.tables.specs.Shape.{limit, chargeWidth, creditWidth}
 use Rattle.tables.specs.Columns.{ownerNumber, accountNumber}
@@ -32,7 +33,7 @@ use Rattle.settlement.specs.Settled.{laid, chargeOf, creditOf}
 use Rattle.settlement.specs.Columns.{figureAt}
 use Rattle.settlement.specs.Accepted.{Accepted}
 use Rattle.settlement.proofs.Written.{laid-at}
-use Rattle.statement_text.specs.Statement.{withNumber, rowsWith, linesText, allCharges, allCredits, statementLines, statementOf}
+use Rattle.statement_text.specs.Statement.{withNumber, rowsWith, linesText, allCharges, allCredits, statementLines, refuseLine, statementOf}
 use Rattle.statement_text.specs.Printed.{Lines, Printed, figuresIn, linesOf}
 use Rattle.statement_text.proofs.Totals.{totals-equal, charges-small}
 use Rattle.statement_text.proofs.Stating.{stated-as, fine}
@@ -203,8 +204,11 @@ module _ {m : Input} {lentCharges lentCredits : ℕ} (all : Accepted m lentCharg
   )
 
 -- no lines are read in a refusal's line, and in an accepted month's its own
+pub refusal-unprinted : (a : Answer) (l : Lines) → ¬ Printed (refuseLine a) l
+refusal-unprinted a l p = lines-no-refusal (l .charges .count) (l .charges .words) (l .credits .count) (l .credits .words) (totalsOf l) a (sym (p .text-is))
+
 pub printed-totalled : (text : List ℕ) (l : Lines) → Printed (statementOf text) l → Totalled l
 printed-totalled =
     stated-as (λ text. (l : Lines) → Printed text l → Totalled l)
-    (λ a l p. absurd (lines-no-refusal (l .charges .count) (l .charges .words) (l .credits .count) (l .credits .words) (totalsOf l) a (sym (p .text-is))))
+    (λ a l p. absurd (refusal-unprinted a l p))
     (λ m z l p. subst Totalled (printed-once (month-printed (fine m z)) p) (month-totalled (fine m z)))

@@ -3,10 +3,9 @@
 -- Assumes nothing.
 use mathlib.Core.Path.{_≡_, ap, _∙_}
 use mathlib.Core.Logic.{_≢_}
-use mathlib.Core.List.{List, [], _∷_}
-use Prim.Native.Nat.{ℕ, _≤_, _<_}
-use native.Mathlib.Omega.{arith}
-use lib.ListN.{length, take, length-take}
+use mathlib.Core.List.{List, [], _∷_, _++_}
+use Prim.Native.Nat.{ℕ, _+_, _≤_, _<_}
+use lib.ListN.{length, take, drop}
 use Rattle.answer.specs.declared.Answer.{Answer}
 use Rattle.answer.specs.Turns.{refuse}
 use Rattle.tables.specs.Shape.{chargeWidth, creditWidth}
@@ -42,17 +41,22 @@ pub totals-are-equal : (m : Input) → settledAnswer m .number ≡ 0 → allChar
 totals-are-equal m e = totals.totals-equal (stating.fine m e)
 
 -- whatever text is stated: where its statement is lines of charges, lines of credits and a line of totals, the two numbers of `total`
--- are the sums of the figures in the lines above it, and are equal
+-- are the sums of the figures in the lines above it ..
 pub totals-are-of-the-lines : (text : List ℕ) (l : Lines) → Printed (statementOf text) l
     → (l .chargeTotal ≡ figuresIn chargeWidth (l .charges)) × (l .creditTotal ≡ figuresIn creditWidth (l .credits))
 totals-are-of-the-lines text l p = (printing.printed-totalled text l p .0, printing.printed-totalled text l p .1)
 
+-- .. and they are equal
 pub printed-totals-are-equal : (text : List ℕ) (l : Lines) → Printed (statementOf text) l → l .chargeTotal ≡ l .creditTotal
 printed-totals-are-equal text l p = printing.printed-totalled text l p .2
 
 -- an accepted month's statement is such lines: its accounts with their charges, its owners with their credits, and both totals ..
 pub accepted-is-printed : (m : Input) → settledAnswer m .number ≡ 0 → Printed (statementLines m) (linesOf m)
 accepted-is-printed m e = printing.month-printed (stating.fine m e)
+
+-- .. a refusal's line is not ..
+pub refusal-is-no-lines : (a : Answer) (l : Lines) → ¬ Printed (refuseLine a) l
+refusal-is-no-lines = printing.refusal-unprinted
 
 -- .. and a text is lines in one way
 pub lines-are-read-in-one-way : (text : List ℕ) (l l′ : Lines) → Printed text l → Printed text l′ → l ≡ l′
@@ -92,11 +96,14 @@ pub too-long-is-refused : (text : List ℕ) → mostBytes < length text → stat
 unfolding refuse refuseLine lineText fieldsText decimal digits
 too-long-is-refused text h = stating.long-text text h
 
--- .. also where no more of it is held than what tells it: whatever the bytes behind are, one too many has been read
-pub too-long-is-seen : (held : List ℕ) (count : ℕ) (lent after : List ℕ) (r : ℕ) → FileStated held count lent after r → mostBytes < count
-    → statementOf (take count held) ≡ bytes "refuse=1,0,0\n"
-too-long-is-seen held count lent after r stated h =
-    too-long-is-refused (take count held) (simp length-take (omega (arith, stated .one-more)))
+-- the program's own call: where the first 32,769 bytes of a file are held, all of a shorter one, that file's statement is written, whole,
+-- and whatever bytes the file has behind those change nothing
+pub file-is-stated : (file held : List ℕ) (count : ℕ) (lent after : List ℕ) (r : ℕ) → FileStated held count lent after r
+    → take count held ≡ take (mostBytes + 1) file
+    → (r ≡ length (statementOf file)) × (after ≡ statementOf file ++ drop (length (statementOf file)) lent)
+file-is-stated file held count lent after r stated e =
+    let same : statementOf (take count held) ≡ statementOf file = ap statementOf e ∙ sizes.first-bytes-tell file in
+    (stated .length-is ∙ ap length same, stated .stores ∙ ap (λ l. l ++ drop (length l) lent) same)
 
 -- no statement has more than `mostShown` bytes, 10,128, so that no room of that size is too short
 pub statement-is-short : (text : List ℕ) → length (statementOf text) ≤ mostShown

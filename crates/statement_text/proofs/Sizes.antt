@@ -2,14 +2,16 @@
 -- begins otherwise than a refusal.
 -- Assumes nothing.
 use mathlib.Core.Path.{_≡_, refl, sym, ap, _∙_}
-use mathlib.Core.Logic.{_≢_}
+use mathlib.Core.Logic.{_≢_, ⊎-elim}
 use mathlib.Core.Bool.{Bool, true, false, cond}
 use mathlib.Core.List.{List, [], _∷_, _++_}
-use Prim.Native.Nat.{ℕ, zero, suc, _+_, _*_, _/_, _%_, _≤_}
+use Prim.Native.Nat.{ℕ, zero, suc, _+_, _*_, _/_, _%_, _≤_, _<_}
 use native.Mathlib.Nat.{le-refl, le-trans, le-of-eq, suc-mul, mul-le-mul-right}
 use native.Mathlib.Omega.{arith}
 use lib.Dec.{ltb}
 use lib.ListN.{length, take, drop, length-append, length-take}
+use lib.Seq.{take-all}
+use Rattle.lists.proofs.Ranks.{lt-or-le}
 use Rattle.lists.specs.Sums.{at}
 use Rattle.answer.specs.declared.Answer.{Answer}
 use Rattle.tables.specs.declared.Table.the-variants.{Owners, Accounts}
@@ -18,7 +20,7 @@ use Rattle.text.specs.Bytes.{bytes}
 use Rattle.text.specs.Numbers.{byteOf, digits, decimal}
 use Rattle.text.specs.Lines.{equals, separator, fieldsText, lineText}
 use Rattle.text.specs.Places.{stored}
-use Rattle.text.proofs.Stores.{length-stored}
+use Rattle.text.proofs.Stores.{stored-in-front}
 use Rattle.monthfile.specs.Writing.{rowsText}
 use Rattle.pool.specs.Input.{Input, ownerCount, accountCount}
 use Rattle.settlement.specs.Accepted.{Accepted}
@@ -26,7 +28,7 @@ use Rattle.statement_text.specs.declared.Shown.{Shown}
 use Rattle.statement_text.specs.Statement.{linesText, statementLines, settledAnswer, refuseLine, mostBytes, mostShown, statementOf}
 use Rattle.statement_text.specs.Calls.{fitting, Shows, FileStated}
 use Rattle.statement_text.proofs.Showing.{fitting-all}
-use Rattle.statement_text.proofs.Stating.{stated-as, fine}
+use Rattle.statement_text.proofs.Stating.{stated-as, fine, long-text}
 
 either-short : (t : Bool) (x y : List ℕ) (most : ℕ) → length x ≤ most → length y ≤ most → length (cond t x y) ≤ most
 either-short true x y most h k = h
@@ -110,19 +112,29 @@ statement-short = stated-as (λ l. length l ≤ 10128) refusal-short month-short
 pub file-stated : (held : List ℕ) (count : ℕ) (lent after : List ℕ) (s : Shown) → length held ≡ mostBytes + 1 → length lent ≡ mostShown
     → Shows (statementOf (take count held)) lent after s → FileStated held count lent after (s .length)
 file-stated held count lent after s more room shows =
-    let all : fitting (statementOf (take count held)) (length lent) ≡ statementOf (take count held) =
-    fitting-all (statementOf (take count held)) (length lent) (le-trans (statement-short (take count held)) (le-of-eq (sym room))) in
+    let text : List ℕ = statementOf (take count held) in
+    let fits : length text ≤ length lent = le-trans (statement-short (take count held)) (le-of-eq (sym room)) in
+    let all : fitting text (length lent) ≡ text = fitting-all text (length lent) fits in
     record {
       one-more = more;
+      enough = room;
       length-is = shows .length-is ∙ ap length all;
-      stores = shows .stores ∙ ap (stored lent 0) all;
+      stores = shows .stores ∙ ap (stored lent 0) all ∙ stored-in-front lent text fits;
     }
 
-pub stated-within : {held : List ℕ} {count : ℕ} {lent after : List ℕ} {r : ℕ} → FileStated held count lent after r → length lent ≡ mostShown → r ≤ length after
-stated-within {held} {count} {lent} stated room =
-    le-trans (le-of-eq (stated .length-is))
-    (le-trans (statement-short (take count held))
-    (le-of-eq (sym (ap length (stated .stores) ∙ length-stored lent 0 (statementOf (take count held)) ∙ room))))
+pub stated-within : {held : List ℕ} {count : ℕ} {lent after : List ℕ} {r : ℕ} → FileStated held count lent after r → r ≤ length after
+stated-within {held} {count} {lent} stated =
+    let text : List ℕ = statementOf (take count held) in
+    omega (arith, stated .length-is, ap length (stated .stores) ∙ length-append text (drop (length text) lent))
+
+-- one byte too many tells a long file: what it has behind that changes nothing
+pub first-bytes-tell : (file : List ℕ) → statementOf (take (mostBytes + 1) file) ≡ statementOf file
+first-bytes-tell file =
+    ⊎-elim
+    (λ (h : mostBytes < length file).
+    long-text (take (mostBytes + 1) file) (simp length-take (omega arith)) ∙ sym (long-text file h))
+    (λ (h : length file ≤ mostBytes). ap statementOf (take-all (mostBytes + 1) file (omega arith)))
+    (lt-or-le mostBytes (length file))
 
 -- the first byte of an accepted month's lines is a c or a t
 no-r : (accounts : ℕ) (charges : List ℕ) (owners : ℕ) (credits last : List ℕ) → at (linesText accounts charges owners credits (bytes "total") last) 0 ≢ 114

@@ -3,7 +3,7 @@
 use mathlib.Core.Path.{_≡_, refl, sym, ap, ap₂, _∙_}
 use mathlib.Core.List.{List, [], _∷_, _++_}
 use Prim.Native.Nat.{ℕ, suc, _+_, _≤_, min}
-use native.Mathlib.Nat.{add-zero, add-suc, suc-add}
+use native.Mathlib.Nat.{zero-add, add-zero, add-suc, suc-add}
 use native.Mathlib.Numerals.{add-one}
 use native.Mathlib.Omega.{arith}
 use lib.ListN.{length, take, drop, set, length-append}
@@ -31,6 +31,10 @@ pub stored-is : (l : List ℕ) (at : ℕ) (vs : List ℕ) → at + length vs ≤
     → stored l at vs ≡ (take at l ++ vs) ++ drop (at + length vs) l
 unfolding stored
 stored-is l at vs h = sets-eq vs l at h
+
+-- .. in front
+pub stored-in-front : (l vs : List ℕ) → length vs ≤ length l → stored l 0 vs ≡ vs ++ drop (length vs) l
+stored-in-front l vs h = stored-is l 0 vs (omega arith) ∙ ap (λ n. vs ++ drop n l) (zero-add (length vs))
 
 pub stored-append : (l : List ℕ) (at : ℕ) (x y : List ℕ) → stored l at (x ++ y) ≡ stored (stored l at x) (at + length x) y
 unfolding stored

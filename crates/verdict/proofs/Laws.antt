@@ -19,8 +19,8 @@ use Rattle.verdict.proofs.Verdicts as verdicts
 use Rattle.verdict.proofs.Reasons as reasons
 use Rattle.verdict.proofs.Sayings as sayings
 use Rattle.verdict.proofs.Passing as passing
--- what a refused check says, and that shares pass
-pub use Rattle.verdict.proofs.Passing.{refused-exactly, divisions-pass}
+-- what a refused check says, that shares pass, and what passes
+pub use Rattle.verdict.proofs.Passing.{refused-exactly, divisions-pass, passed-within-a-cent, no-base-no-amounts}
 
 -- no refusal has a number above BASE, and none has 0
 pub check-number : (pot : ℕ) (weights amounts : List ℕ) → meaning (verdict pot weights amounts) .number ≤ BASE

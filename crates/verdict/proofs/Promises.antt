@@ -42,7 +42,7 @@ neither-means-refused pot weights amounts =
     (sayings.neither-refused pot weights amounts, sayings.refused-says-neither pot weights amounts)
     (Iff·not (check-accepts pot weights amounts))
 
--- .. and has a number then exactly when it is refused with that number
+-- .. and neither with a number exactly when it is refused with that number
 pub refused-says-neither : (pot : ℕ) (weights amounts : List ℕ) (n : ℕ)
     → ((meaning (verdict pot weights amounts) .says ≡ neither) × (meaning (verdict pot weights amounts) .number ≡ n))
     ↔ CheckRefused pot weights amounts n

@@ -21,7 +21,8 @@ checkRefusal pot weights amounts =
     (sizeRefusal pot (total weights))
 
 -- the amounts add up to the pot and are level: no amount stands more than a cent higher over its exact share than another
--- (that these are the closest lists, by the sum of squares, is the theorem of `closeness`)
+-- (that these are the closest lists, by the sum of squares, is the theorem of `closeness`; of no weights every list is level, and "For
+-- W and P both zero it says yes exactly when all amounts are zero" is then in the sum)
 unfoldable pub passes : ℕ → List ℕ → List ℕ → Bool
 passes pot weights amounts = eqb (total amounts) pot && level pot weights amounts
 

@@ -1,17 +1,16 @@
 -- `statement::main` is safe and ends: no statement is longer than what is lent for it.
 -- Assumes nothing.
 use mathlib.Core.Path.{sym}
-use Prim.Native.Nat.{ℕ, _≤_}
-use lib.ListN.{length, length-replicate}
+use Prim.Native.Nat.{_≤_}
+use lib.ListN.{length}
 use lib.Seq.{length-take-le}
 use borrow.Author.Needs.{needs}
-use Rattle.statement_text.specs.Statement.{mostShown}
 use Rattle.statement_text.proofs.Sizes.{stated-within}
 use Rattle.statement.proofs.main.Statement.{statement}
 use Rattle.statement.proofs.main.Tie as tie
 
 inside : (c : tie.After-state-file) → c .state-file .result ≤ length (c .state-file .last .1 .1 .0)
-inside c = stated-within (c .state-file .ensures) (length-replicate {A = ℕ} mostShown 0)
+inside c = stated-within (c .state-file .ensures)
 
 slice-aggregate-read-all : tie.Need-slice-aggregate-read-all
 slice-aggregate-read-all c = search needs
