@@ -6,7 +6,7 @@ ghost use Rattle.answer.specs.Numbers as numbers;
 ghost use Rattle.answer.specs.Turns.{accepted, refuse};
 ghost use Rattle.tables.specs.Shape.{number, width, limit, tableAt};
 ghost use Rattle.text.specs.Lines.{line};
-ghost use Rattle.monthfile.specs.Form.{key, monthForm, headAt};
+ghost use Rattle.monthfile.specs.Form.{key, monthForm};
 ghost use Rattle.monthfile.specs.Reading.{refused, rows, heads, tables};
 ghost use Rattle.monthfile.specs.Calls.{readAnswer};
 ghost use Rattle.monthfile.specs.Walks.{CountedAt, OneTaken, Walked, Ended, JudgedAs, countsOf, readingOf};
@@ -16,8 +16,6 @@ use crate::row;
 use crate::row::Counted;
 use answer::Answer;
 use tables::Table;
-
-const HEADS: usize = 3;
 
 const TABLES: usize = 6;
 
@@ -60,38 +58,31 @@ fn one_number(text: &[u8], at: usize, key: &[u8], words: &mut [u64], place: usiz
     if next == 0 {
         return 0;
     }
-    text::line::take_line(text, at, key, 1, words, place);
+    text::reader::take_next_line(text, at, key, 1, words, place);
     next
 }
 
-// Line `k` of the head, counted from 0.
-fn head_line(text: &[u8], at: usize, k: usize, head: &mut [u64]) -> usize
-    requires { ⌜ k < length (now head) ⌝ }
-    ensures { λ r. ⌜ OneTaken (now (text .entry)) (line (headAt k) 1 (drop at (now (text .entry)))) (now (head .entry)) k r (now (head .exit)) ⌝ }
-{
-    match k {
-        0 => one_number(text, at, &keys::MONTH, head, k),
-        1 => one_number(text, at, &keys::DAYS, head, k),
-        _ => one_number(text, at, &keys::NONZONE, head, k),
-    }
-}
-
-// The first lines in turn.
+// The first lines in turn: one reader steps over the first two.
 fn judge_heads(text: &[u8], head: &mut [u64]) -> Walk
     requires { ⌜ length (now head) ≡ 3 ⌝ }
     ensures { λ r. ⌜ Walked (now (text .entry)) (heads (length (now (text .entry))) (monthForm .heads) (now (text .entry))) (λ ns. ns) (now (head .entry)) r (now (head .exit)) ⌝ }
 {
-    let mut i = 0;
-    let mut k = 0;
-    while k < HEADS {
-        let next = head_line(text, i, k, head);
-        if next == 0 {
-            return unfit(i);
-        }
-        i = next;
-        k += 1;
+    let ends = text::reader::next_two_lines(text, 0, &keys::MONTH, &keys::DAYS, 1);
+    let month = ends.first;
+    let days = ends.second;
+    if month == 0 {
+        return unfit(0);
     }
-    fine(i)
+    if days == month {
+        return unfit(month);
+    }
+    text::reader::take_next_line(text, 0, &keys::MONTH, 1, head, 0);
+    text::reader::take_next_line(text, month, &keys::DAYS, 1, head, 1);
+    let nonzone = one_number(text, days, &keys::NONZONE, head, 2);
+    if nonzone == 0 {
+        return unfit(days);
+    }
+    fine(nonzone)
 }
 
 // The table of each kind of rows, in the order of the file.

@@ -34,7 +34,7 @@ pub fn step<'a, 'k>(reader: Reader<'a>, key: &'k [u8], width: usize) -> Reader<'
 }
 
 // The reader behind the line at which it stands, which is known to be there; its fields are stored in `words` from `place` on.
-pub fn step_taking<'a, 'k, 'w>(
+fn step_taking<'a, 'k, 'w>(
     reader: Reader<'a>,
     key: &'k [u8],
     width: usize,
@@ -76,13 +76,7 @@ pub struct Ends {
 }
 
 // Two steps of one reader that stands at `at`: over a line with the first key, and from where that ended over one with the second.
-pub fn next_two_lines(
-    text: &[u8],
-    at: usize,
-    first: &[u8],
-    second: &[u8],
-    width: usize,
-) -> Ends
+pub fn next_two_lines(text: &[u8], at: usize, first: &[u8], second: &[u8], width: usize) -> Ends
     ensures { λ r. ⌜ EndsAt (now (text .entry)) at (now (first .entry)) (now (second .entry)) width r ⌝ }
 {
     let once = step(reader_at(text, at), first, width);
