@@ -40,6 +40,11 @@ unfit-at s i h =
     let e : length s - length (drop i s) ≡ i = omega arith in
     ap (refuse numbers.TEXT numbers.head) e
 
+text-refuses : (i : ℕ) (a : Answer) → a ≡ refuse numbers.TEXT numbers.head i → a .number ≢ 0
+text-refuses i a q z =
+    let y : numbers.TEXT ≡ 0 = sym (ap (λ (b : Answer). b .number) q ∙ refuse-number numbers.TEXT numbers.head i) ∙ z in
+    omega arith
+
 onward-same : {E : Type 0} (o : Outcome (List E)) → o ≡ onward o (λ ms u. got ms u)
 onward-same (got a s) = refl
 onward-same (refused r) = refl
@@ -133,7 +138,7 @@ module _ (s : List ℕ) (o : Outcome (List ℕ)) (lent current : List ℕ) (i k 
         walk-stop itself refl itself-more o (heads (length s) (key ∷ keys) (drop i s)) lent current k w s r
         (refuse numbers.TEXT numbers.head i) after
         (heads-stop (length s) key keys (drop i s) e ∙ ap refused (unfit-at s i h))
-        (q .0) (λ e. let z : 10 ≡ 0 = sym (refuse-number numbers.TEXT numbers.head i) ∙ e in omega arith) (rw (q .1) h)
+        (q .0) (text-refuses i (refuse numbers.TEXT numbers.head i) refl) (rw (q .1) h)
 
     pub head-next : (n : ℕ) (ns next : List ℕ) → line key 1 (drop i s) ≡ found ns (drop n s) → next ≡ stored current k (fieldsOf (line key 1 (drop i s)))
         → Walking o (heads (length s) keys (drop n s)) itself lent next (k + 1)
@@ -264,7 +269,8 @@ module _ (key s : List ℕ) (i total : ℕ) (h : i ≤ length s) (current : List
   not-fit e a q =
       record {
         stopped = λ d c r. e c r ∙ ap refused (unfit-at s i h ∙ sym q);
-        went-on = λ z. absurd (let y : 10 ≡ 0 = sym (ap (λ (b : Answer). b .number) q ∙ refuse-number numbers.TEXT numbers.head i) ∙ z in omega arith);
+        went-on = λ z. absurd (text-refuses i a q z);
+        none = λ z. absurd (text-refuses i a q z);
       }
 
   pub end-missing : n ≡ 0 → (a : Answer) → a ≡ refuse numbers.TEXT numbers.head i → Ended key s (drop i s) total a
@@ -294,14 +300,16 @@ module _ (key s : List ℕ) (i total : ℕ) (h : i ≤ length s) (current : List
         record {
           stopped = λ y c r. ends x c r ∙ ap (closed (length s) c) (drop-next s n b)
               ∙ ap (λ l. refused (unfit (length s) l)) (sym (drop-next s n b)) ∙ ap refused (unfit-at s n (omega arith) ∙ sym q);
-          went-on = λ z. absurd (let y : 10 ≡ 0 = sym (ap (λ (b : Answer). b .number) q ∙ refuse-number numbers.TEXT numbers.head n) ∙ z in omega arith);
+          went-on = λ z. absurd (text-refuses n a q z);
+          none = λ z. absurd (text-refuses n a q z);
         }
 
-    pub end-fine : at next 0 ≡ total → length s ≤ n → (a : Answer) → a .number ≡ 0 → Ended key s (drop i s) total a
+    pub end-fine : at next 0 ≡ total → length s ≤ n → (a : Answer) → a ≡ accepted → Ended key s (drop i s) total a
     end-fine x b a q =
         record {
-          stopped = λ y. absurd (y q);
+          stopped = λ y. absurd (y (ap (λ (r : Answer). r .number) q));
           went-on = λ z c r. ends x c r ∙ ap (closed (length s) c) (drop-end s n b);
+          none = λ z. q;
         }
 
 -- a whole text from its parts

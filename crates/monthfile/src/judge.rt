@@ -212,7 +212,7 @@ pub fn nothing_read(answer: Answer) -> Reading
     }
 }
 
-// What the first walk finds: the answer of `read`, and where the tables begin.
+// What the first walk finds: what the text holds, as far as it was judged, with the first refusal; and where the tables begin.
 pub struct Judged {
     pub held: Reading,
     pub body: usize,
@@ -227,17 +227,13 @@ fn stopped(answer: Answer) -> Judged
     }
 }
 
-// What an accepted text holds, by its head and its counts.
-fn found(head: &[u64], counts: &[u64]) -> Reading
+// What a text holds by its head and its counts, with the answer to its last line.
+fn found(answer: Answer, head: &[u64], counts: &[u64]) -> Reading
     requires { ⌜ (length (now head) ≡ 3) × (length (now counts) ≡ 6) ⌝ }
-    ensures { λ r. ⌜ r ≡ readingOf (now (head .entry)) (now (counts .entry)) ⌝ }
+    ensures { λ r. ⌜ r ≡ readingOf answer (now (head .entry)) (now (counts .entry)) ⌝ }
 {
     Reading {
-        answer: Answer {
-            number: answer::ACCEPTED,
-            table: answer::HEAD,
-            row: 0,
-        },
+        answer,
         month: head[0],
         days: head[1],
         nonzone: head[2],
@@ -269,11 +265,8 @@ pub fn judge_text(text: &[u8]) -> Judged
         return stopped(second);
     }
     let end = judge_end(text, last, lists::sum_capped(&counts, u64::MAX));
-    if end.number != answer::ACCEPTED {
-        return stopped(end);
-    }
     Judged {
-        held: found(&head, &counts),
+        held: found(end, &head, &counts),
         body,
     }
 }
