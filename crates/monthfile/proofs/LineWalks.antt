@@ -40,6 +40,7 @@ unfit-at s i h =
     let e : length s - length (drop i s) ≡ i = omega arith in
     ap (refuse numbers.TEXT numbers.head) e
 
+-- an answer that is TEXT refuses
 text-refuses : (i : ℕ) (a : Answer) → a ≡ refuse numbers.TEXT numbers.head i → a .number ≢ 0
 text-refuses i a q z =
     let y : numbers.TEXT ≡ 0 = sym (ap (λ (b : Answer). b .number) q ∙ refuse-number numbers.TEXT numbers.head i) ∙ z in
@@ -132,7 +133,7 @@ itself-more x y = refl
 
 module _ (s : List ℕ) (o : Outcome (List ℕ)) (lent current : List ℕ) (i k : ℕ) (h : i ≤ length s) where
   module _ (key : List ℕ) (keys : List (List ℕ)) (w : Walking o (heads (length s) (key ∷ keys) (drop i s)) itself lent current k) where
-    pub head-stop : line key 1 (drop i s) ≡ missing → (r : Walk) → (r .answer ≡ refuse numbers.TEXT numbers.head i) × (r .at ≡ i) → (after : List ℕ)
+    head-stop : line key 1 (drop i s) ≡ missing → (r : Walk) → (r .answer ≡ refuse numbers.TEXT numbers.head i) × (r .at ≡ i) → (after : List ℕ)
         → Walked s o itself lent r after
     head-stop e r q after =
         walk-stop itself refl itself-more o (heads (length s) (key ∷ keys) (drop i s)) lent current k w s r
@@ -140,7 +141,7 @@ module _ (s : List ℕ) (o : Outcome (List ℕ)) (lent current : List ℕ) (i k 
         (heads-stop (length s) key keys (drop i s) e ∙ ap refused (unfit-at s i h))
         (q .0) (text-refuses i (refuse numbers.TEXT numbers.head i) refl) (rw (q .1) h)
 
-    pub head-next : (n : ℕ) (ns next : List ℕ) → line key 1 (drop i s) ≡ found ns (drop n s) → next ≡ stored current k (fieldsOf (line key 1 (drop i s)))
+    head-next : (n : ℕ) (ns next : List ℕ) → line key 1 (drop i s) ≡ found ns (drop n s) → next ≡ stored current k (fieldsOf (line key 1 (drop i s)))
         → Walking o (heads (length s) keys (drop n s)) itself lent next (k + 1)
     head-next n ns next read written =
         let one : Line key 1 (drop i s) ns (drop n s) = line-back key 1 (drop i s) ns (drop n s) read in
@@ -150,14 +151,14 @@ module _ (s : List ℕ) (o : Outcome (List ℕ)) (lent current : List ℕ) (i k 
         (written ∙ ap (λ f. stored current k (fieldsOf f)) read)
         (ap (λ m. k + m) (one .width-is))
 
-  pub head-end : Walking o (heads (length s) [] (drop i s)) itself lent current k → (r : Walk) → (r .answer ≡ accepted) × (r .at ≡ i)
+  head-end : Walking o (heads (length s) [] (drop i s)) itself lent current k → (r : Walk) → (r .answer ≡ accepted) × (r .at ≡ i)
       → Walked s o itself lent r current
   head-end w r q =
       walk-end itself refl itself-more o (heads (length s) [] (drop i s)) lent current k w s r
       (heads-none (length s) (drop i s) ∙ ap (λ j. got [] (drop j s)) (sym (q .1)))
       (q .0) (rw (q .1) h)
 
--- the first two lines, where one reader steps over both
+-- the month file's: one reader steps over `month` and `days`, and `nonzone` follows
 abbrev first-lines : List ℕ → Outcome (List ℕ)
 first-lines s = heads (length s) (monthForm .heads) s
 

@@ -62,7 +62,7 @@ fn one_number(text: &[u8], at: usize, key: &[u8], words: &mut [u64], place: usiz
     next
 }
 
-// The first lines in turn: one reader steps over the first two.
+// The first lines in turn: one reader steps over `month` and `days`.
 fn judge_heads(text: &[u8], head: &mut [u64]) -> Walk
     requires { ⌜ length (now head) ≡ 3 ⌝ }
     ensures { λ r. ⌜ Walked (now (text .entry)) (heads (length (now (text .entry))) (monthForm .heads) (now (text .entry))) (λ ns. ns) (now (head .entry)) r (now (head .exit)) ⌝ }
@@ -212,7 +212,7 @@ pub fn nothing_read(answer: Answer) -> Reading
     }
 }
 
-// What the first walk finds: what the text holds, as far as it was judged, with the first refusal; and where the tables begin.
+// What the first walk finds: what the text holds, with its first refusal if there is one, and where the tables begin.
 pub struct Judged {
     pub held: Reading,
     pub body: usize,
