@@ -14,7 +14,7 @@ use Rattle.answer.specs.Turns.{accepted}
 use Rattle.monthfile.specs.declared.Reading.{Reading}
 use Rattle.monthfile.specs.declared.judge.Walk.{Walk}
 use Rattle.monthfile.specs.Form.{Kind, monthForm}
-use Rattle.monthfile.specs.Reading.{got, refused, Rows, heads, tables, rowsIn, ending, reading}
+use Rattle.monthfile.specs.Reading.{got, refused, Rows, Contents, heads, tables, rowsIn, ending, reading}
 use Rattle.monthfile.specs.Writing.{AllFit}
 use Rattle.monthfile.specs.Calls.{nth, readAnswer}
 use Rattle.monthfile.specs.Walks.{Walked, Ended, JudgedAs, countsOf, readingOf}
@@ -38,7 +38,7 @@ unfolding mostRows
 month-rows ts f = lt-of-le-of-lt (rows-in-most (monthForm .kinds) ts f) (lit< tt)
 
 -- what `read` answers, by its two lists of numbers
-reading-is : (ns : List ℕ) (ts : List Rows) (rest : List ℕ) → readingOf ns (countsOf ts) ≡ readAnswer (got (record { head = ns; tables = ts }) rest)
+reading-is : (ns : List ℕ) (ts : List Rows) (rest : List ℕ) → readingOf accepted ns (countsOf ts) ≡ readAnswer (got (record { head = ns; tables = ts }) rest)
 reading-is ns ts rest =
     λ i.
     record {
@@ -58,9 +58,11 @@ reading-is ns ts rest =
 refused-as : (s : List ℕ) (a : Answer) (held : Reading) (body : ℕ) → reading monthForm s ≡ refused a → a .number ≢ 0 → held ≡ readAnswer (refused a)
     → JudgedAs s held body
 refused-as s a held body e d q =
+    let not : held .answer .number ≢ 0 = λ z. d (ap (λ (r : Reading). r .answer .number) (sym q) ∙ z) in
     record {
-      answers = q ∙ ap readAnswer (sym e);
-      holds = λ z. absurd (d (ap (λ (r : Reading). r .answer .number) (sym q) ∙ z));
+      stopped = λ y. e ∙ ap refused (ap (λ (r : Reading). r .answer) (sym q));
+      answers = λ z. absurd (not z);
+      holds = λ z. absurd (not z);
     }
 
 module _ (s lent : List ℕ) (w : Walk) (head : List ℕ) (first : Walked s (heads (length s) (monthForm .heads) s) itself lent w head) where
@@ -99,23 +101,24 @@ module _ (s lent : List ℕ) (w : Walk) (head : List ℕ) (first : Walked s (hea
             let few : rowsIn ts < 2 ^ 64 = month-rows ts (back .fit) in
             sym (added ∙ ap (λ n. min n (2 ^ 64 - 1)) rows-are ∙ min-eq-left (omega arith))
 
-        pub judged-end : a .number ≢ 0 → (held : Reading) (body : ℕ) → held ≡ readAnswer (refused a) → JudgedAs s held body
-        judged-end d held body q =
-            refused-as s a held body (whole ∙ third .stopped d (record { head = ns; tables = ts }) all-rows) d q
-
-        pub judged-fine : a .number ≡ 0 → length lent ≡ 3 → (held : Reading) → held ≡ readingOf head counts → JudgedAs s held (w .at)
-        judged-fine x three held q =
-            let all : reading monthForm s ≡ got (record { head = ns; tables = ts }) [] =
-            whole ∙ third .went-on x (record { head = ns; tables = ts }) all-rows in
+        pub judged-whole : length lent ≡ 3 → (held : Reading) → held ≡ readingOf a head counts → JudgedAs s held (w .at)
+        judged-whole three held q =
+            let its : held .answer ≡ a = ap (λ (r : Reading). r .answer) q in
+            let number : held .answer .number ≡ a .number = ap (λ (b : Answer). b .number) its in
+            let contents : Contents = record { head = ns; tables = ts } in
+            let all : held .answer .number ≡ 0 → reading monthForm s ≡ got contents [] =
+            λ x. whole ∙ third .went-on (sym number ∙ x) contents all-rows in
             let hb : HeadsBack (monthForm .heads) s ns (drop (w .at) s) = heads-back (length s) (monthForm .heads) s ns (drop (w .at) s) (first .went-on z .1) in
             let head-is : head ≡ ns = first .went-on z .2 ∙ stored-all lent ns (hb .one-each ∙ sym three) in
             record {
-              answers = q ∙ ap₂ readingOf head-is counts-are ∙ reading-is ns ts [] ∙ ap readAnswer (sym all);
-              holds = λ b.
+              stopped = λ d. whole ∙ third .stopped (λ x. d (number ∙ x)) contents all-rows ∙ ap refused (sym its);
+              answers = λ x. q ∙ ap (λ b. readingOf b head counts) (third .none (sym number ∙ x)) ∙ ap₂ (readingOf accepted) head-is counts-are
+                  ∙ reading-is ns ts [] ∙ ap readAnswer (sym (all x));
+              holds = λ x.
                   record {
-                    contents = record { head = ns; tables = ts };
+                    contents = contents;
                     rest = drop (v .at) s;
-                    whole = all;
+                    whole = all x;
                     inside = first .inside;
                     held = second .went-on y .1;
                   };

@@ -17,15 +17,18 @@ use Rattle.answer.proofs.Turns.{refuse-number}
 use Rattle.tables.specs.Shape.{limit, number, tableAt}
 use Rattle.tables.specs.declared.Table.the-variants.{Reservations}
 use Rattle.text.specs.Bytes.{bytes}
-use Rattle.text.specs.Numbers.{found}
+use Rattle.text.specs.declared.reader.Ends.{Ends}
+use Rattle.text.specs.Numbers.{found, missing}
 use Rattle.text.specs.Lines.{line}
 use Rattle.text.specs.Places.{fieldsOf, stored}
+use Rattle.text.specs.Readers.{EndsAt}
+use Rattle.text.proofs.Numbers.{never}
 use Rattle.text.proofs.Lines.{Line, line-back}
 use Rattle.text.proofs.Places.{drop-next, drop-end}
 use Rattle.text.proofs.Stores.{stored-none, stored-one, stored-append, stored-is}
 use Rattle.monthfile.specs.declared.row.Counted.{Counted}
 use Rattle.monthfile.specs.declared.judge.Walk.{Walk}
-use Rattle.monthfile.specs.Form.{Kind, Form, kindOf, monthForm, headAt}
+use Rattle.monthfile.specs.Form.{Kind, Form, kindOf, monthForm}
 use Rattle.monthfile.specs.Reading.{Outcome, got, refused, onward, unfit, Rows, heads, tables, Contents, rowsIn, closed, ending, reading}
 use Rattle.monthfile.specs.Walks.{CountedAt, OneTaken, Walked, Ended, countsOf}
 use Rattle.monthfile.proofs.Forms.{heads-none, heads-on, heads-stop, tables-none, tables-on, tables-over, readOf, tableOf, ending-stop, ending-other, ending-on}
@@ -36,6 +39,12 @@ unfit-at s i h =
     let left : length (drop i s) ≡ length s - i = length-drop i s in
     let e : length s - length (drop i s) ≡ i = omega arith in
     ap (refuse numbers.TEXT numbers.head) e
+
+-- an answer that is TEXT refuses
+text-refuses : (i : ℕ) (a : Answer) → a ≡ refuse numbers.TEXT numbers.head i → a .number ≢ 0
+text-refuses i a q z =
+    let y : numbers.TEXT ≡ 0 = sym (ap (λ (b : Answer). b .number) q ∙ refuse-number numbers.TEXT numbers.head i) ∙ z in
+    omega arith
 
 onward-same : {E : Type 0} (o : Outcome (List E)) → o ≡ onward o (λ ms u. got ms u)
 onward-same (got a s) = refl
@@ -96,22 +105,7 @@ module _ {E : Type 0} (kept : List E → List ℕ) (none : kept [] ≡ []) (more
           );
         }
 
--- the first lines and the kinds by their place
-pub heads-at : (k : ℕ) → k < 3 → drop k (monthForm .heads) ≡ headAt k ∷ drop (k + 1) (monthForm .heads)
-heads-at zero h = refl
-heads-at (suc zero) h = refl
-heads-at (suc (suc zero)) h = refl
-heads-at (suc (suc (suc k))) h = absurd (omega arith)
-
-pub heads-over : (k : ℕ) → 3 ≤ k → drop k (monthForm .heads) ≡ []
-heads-over k h = drop-past (monthForm .heads) k h
-  where
-    drop-past : (l : List (List ℕ)) (k : ℕ) → length l ≤ k → drop k l ≡ []
-    drop-past [] zero h = refl
-    drop-past [] (suc k) h = refl
-    drop-past (a ∷ l) zero h = absurd (omega arith)
-    drop-past (a ∷ l) (suc k) h = drop-past l k (omega arith)
-
+-- the kinds by their place
 pub kinds-at : (k : ℕ) → k < 6 → drop k (monthForm .kinds) ≡ kindOf (tableAt k) ∷ drop (k + 1) (monthForm .kinds)
 kinds-at zero h = refl
 kinds-at (suc zero) h = refl
@@ -137,35 +131,85 @@ itself ns = ns
 pub itself-more : (x y : List ℕ) → itself (x ++ y) ≡ itself x ++ itself y
 itself-more x y = refl
 
-module _ (s : List ℕ) (o : Outcome (List ℕ)) (lent current : List ℕ) (i k : ℕ)
-    (w : Walking o (heads (length s) (drop k (monthForm .heads)) (drop i s)) itself lent current k) (h : i ≤ length s) where
-  module _ (b : k < 3) (n : ℕ) (next : List ℕ) (t : OneTaken s (line (headAt k) 1 (drop i s)) current k n next) where
-    opened : heads (length s) (drop k (monthForm .heads)) (drop i s) ≡ heads (length s) (headAt k ∷ drop (k + 1) (monthForm .heads)) (drop i s)
-    opened = ap (λ l. heads (length s) l (drop i s)) (heads-at k b)
-
-    pub head-stop : n ≡ 0 → (r : Walk) → (r .answer ≡ refuse numbers.TEXT numbers.head i) × (r .at ≡ i) → (after : List ℕ) → Walked s o itself lent r after
-    head-stop z r q after =
-        walk-stop itself refl itself-more o (heads (length s) (drop k (monthForm .heads)) (drop i s)) lent current k w s r
+module _ (s : List ℕ) (o : Outcome (List ℕ)) (lent current : List ℕ) (i k : ℕ) (h : i ≤ length s) where
+  module _ (key : List ℕ) (keys : List (List ℕ)) (w : Walking o (heads (length s) (key ∷ keys) (drop i s)) itself lent current k) where
+    head-stop : line key 1 (drop i s) ≡ missing → (r : Walk) → (r .answer ≡ refuse numbers.TEXT numbers.head i) × (r .at ≡ i) → (after : List ℕ)
+        → Walked s o itself lent r after
+    head-stop e r q after =
+        walk-stop itself refl itself-more o (heads (length s) (key ∷ keys) (drop i s)) lent current k w s r
         (refuse numbers.TEXT numbers.head i) after
-        (opened ∙ heads-stop (length s) (headAt k) (drop (k + 1) (monthForm .heads)) (drop i s) (t .line-is .unfit z) ∙ ap refused (unfit-at s i h))
-        (q .0) (λ e. let z : 10 ≡ 0 = sym (refuse-number numbers.TEXT numbers.head i) ∙ e in omega arith) (rw (q .1) h)
+        (heads-stop (length s) key keys (drop i s) e ∙ ap refused (unfit-at s i h))
+        (q .0) (text-refuses i (refuse numbers.TEXT numbers.head i) refl) (rw (q .1) h)
 
-    pub head-next : n ≢ 0 → Walking o (heads (length s) (drop (k + 1) (monthForm .heads)) (drop n s)) itself lent next (k + 1)
-    head-next d =
-        let ns : List ℕ = t .line-is .fits d .0 in
-        let read : line (headAt k) 1 (drop i s) ≡ found ns (drop n s) = t .line-is .fits d .1 in
-        let one : Line (headAt k) 1 (drop i s) ns (drop n s) = line-back (headAt k) 1 (drop i s) ns (drop n s) read in
-        walk-next itself refl itself-more o (heads (length s) (drop k (monthForm .heads)) (drop i s)) lent current k w ns
-        (heads (length s) (drop (k + 1) (monthForm .heads)) (drop n s)) next (k + 1)
-        (opened ∙ heads-on (length s) (headAt k) (drop (k + 1) (monthForm .heads)) (drop i s) ns (drop n s) read)
-        (t .written ∙ ap (λ f. stored current k (fieldsOf f)) read)
+    head-next : (n : ℕ) (ns next : List ℕ) → line key 1 (drop i s) ≡ found ns (drop n s) → next ≡ stored current k (fieldsOf (line key 1 (drop i s)))
+        → Walking o (heads (length s) keys (drop n s)) itself lent next (k + 1)
+    head-next n ns next read written =
+        let one : Line key 1 (drop i s) ns (drop n s) = line-back key 1 (drop i s) ns (drop n s) read in
+        walk-next itself refl itself-more o (heads (length s) (key ∷ keys) (drop i s)) lent current k w ns
+        (heads (length s) keys (drop n s)) next (k + 1)
+        (heads-on (length s) key keys (drop i s) ns (drop n s) read)
+        (written ∙ ap (λ f. stored current k (fieldsOf f)) read)
         (ap (λ m. k + m) (one .width-is))
 
-  pub head-end : 3 ≤ k → (r : Walk) → (r .answer ≡ accepted) × (r .at ≡ i) → Walked s o itself lent r current
-  head-end b r q =
-      walk-end itself refl itself-more o (heads (length s) (drop k (monthForm .heads)) (drop i s)) lent current k w s r
-      (ap (λ l. heads (length s) l (drop i s)) (heads-over k b) ∙ heads-none (length s) (drop i s) ∙ ap (λ j. got [] (drop j s)) (sym (q .1)))
+  head-end : Walking o (heads (length s) [] (drop i s)) itself lent current k → (r : Walk) → (r .answer ≡ accepted) × (r .at ≡ i)
+      → Walked s o itself lent r current
+  head-end w r q =
+      walk-end itself refl itself-more o (heads (length s) [] (drop i s)) lent current k w s r
+      (heads-none (length s) (drop i s) ∙ ap (λ j. got [] (drop j s)) (sym (q .1)))
       (q .0) (rw (q .1) h)
+
+-- the month file's: one reader steps over `month` and `days`, and `nonzone` follows
+abbrev first-lines : List ℕ → Outcome (List ℕ)
+first-lines s = heads (length s) (monthForm .heads) s
+
+module _ (s lent : List ℕ) (ends : Ends) (a : EndsAt s 0 (bytes "month") (bytes "days") 1 ends) where
+  start : Walking (first-lines s) (first-lines s) itself lent lent 0
+  start = walk-start itself refl itself-more (first-lines s) lent
+
+  pub month-stop : ends .first ≡ 0 → (r : Walk) → (r .answer ≡ refuse numbers.TEXT numbers.head 0) × (r .at ≡ 0) → (after : List ℕ)
+      → Walked s (first-lines s) itself lent r after
+  month-stop z =
+      head-stop s (first-lines s) lent lent 0 0 (omega arith) (bytes "month") (bytes "days" ∷ bytes "nonzone" ∷ []) start (a .first-is .unfit z)
+
+  module _ (d : ends .first ≢ 0) where
+    pub month-there : line (bytes "month") 1 s ≢ missing
+    month-there e = never e (a .first-is .fits d .1)
+
+    month-next : (one : List ℕ) → one ≡ stored lent 0 (fieldsOf (line (bytes "month") 1 s))
+        → Walking (first-lines s) (heads (length s) (bytes "days" ∷ bytes "nonzone" ∷ []) (drop (ends .first) s)) itself lent one 1
+    month-next one e =
+        head-next s (first-lines s) lent lent 0 0 (omega arith) (bytes "month") (bytes "days" ∷ bytes "nonzone" ∷ []) start (ends .first)
+        (a .first-is .fits d .0) one (a .first-is .fits d .1) e
+
+    pub days-stop : ends .second ≡ ends .first → (r : Walk) → (r .answer ≡ refuse numbers.TEXT numbers.head (ends .first)) × (r .at ≡ ends .first)
+        → (after : List ℕ) → Walked s (first-lines s) itself lent r after
+    days-stop z =
+        let one : List ℕ = stored lent 0 (fieldsOf (line (bytes "month") 1 s)) in
+        head-stop s (first-lines s) lent one (ends .first) 1 (a .first-is .inside d) (bytes "days") (bytes "nonzone" ∷ []) (month-next one refl)
+        (a .second-is .unfit z)
+
+    module _ (f : ends .second ≢ ends .first) where
+      pub days-there : line (bytes "days") 1 (drop (ends .first) s) ≢ missing
+      days-there e = never e (a .second-is .fits f .1)
+
+      module _ (one two : List ℕ) (e : one ≡ stored lent 0 (fieldsOf (line (bytes "month") 1 s)))
+          (g : two ≡ stored one 1 (fieldsOf (line (bytes "days") 1 (drop (ends .first) s)))) (n : ℕ) (three : List ℕ)
+          (t : OneTaken s (line (bytes "nonzone") 1 (drop (ends .second) s)) two 2 n three) where
+        days-next : Walking (first-lines s) (heads (length s) (bytes "nonzone" ∷ []) (drop (ends .second) s)) itself lent two 2
+        days-next =
+            head-next s (first-lines s) lent one (ends .first) 1 (a .first-is .inside d) (bytes "days") (bytes "nonzone" ∷ []) (month-next one e) (ends .second)
+            (a .second-is .fits f .0) two (a .second-is .fits f .1) g
+
+        pub nonzone-stop : n ≡ 0 → (r : Walk) → (r .answer ≡ refuse numbers.TEXT numbers.head (ends .second)) × (r .at ≡ ends .second)
+            → (after : List ℕ) → Walked s (first-lines s) itself lent r after
+        nonzone-stop z =
+            head-stop s (first-lines s) lent two (ends .second) 2 (a .second-is .inside f) (bytes "nonzone") [] days-next (t .line-is .unfit z)
+
+        pub nonzone-end : n ≢ 0 → (r : Walk) → (r .answer ≡ accepted) × (r .at ≡ n) → Walked s (first-lines s) itself lent r three
+        nonzone-end b =
+            head-end s (first-lines s) lent three n 3 (t .line-is .inside)
+            (head-next s (first-lines s) lent two (ends .second) 2 (a .second-is .inside f) (bytes "nonzone") [] days-next n
+            (t .line-is .fits b .0) three (t .line-is .fits b .1) (t .written))
 
 -- the tables
 pub counts-more : (x y : List Rows) → countsOf (x ++ y) ≡ countsOf x ++ countsOf y
@@ -226,7 +270,8 @@ module _ (key s : List ℕ) (i total : ℕ) (h : i ≤ length s) (current : List
   not-fit e a q =
       record {
         stopped = λ d c r. e c r ∙ ap refused (unfit-at s i h ∙ sym q);
-        went-on = λ z. absurd (let y : 10 ≡ 0 = sym (ap (λ (b : Answer). b .number) q ∙ refuse-number numbers.TEXT numbers.head i) ∙ z in omega arith);
+        went-on = λ z. absurd (text-refuses i a q z);
+        none = λ z. absurd (text-refuses i a q z);
       }
 
   pub end-missing : n ≡ 0 → (a : Answer) → a ≡ refuse numbers.TEXT numbers.head i → Ended key s (drop i s) total a
@@ -256,14 +301,16 @@ module _ (key s : List ℕ) (i total : ℕ) (h : i ≤ length s) (current : List
         record {
           stopped = λ y c r. ends x c r ∙ ap (closed (length s) c) (drop-next s n b)
               ∙ ap (λ l. refused (unfit (length s) l)) (sym (drop-next s n b)) ∙ ap refused (unfit-at s n (omega arith) ∙ sym q);
-          went-on = λ z. absurd (let y : 10 ≡ 0 = sym (ap (λ (b : Answer). b .number) q ∙ refuse-number numbers.TEXT numbers.head n) ∙ z in omega arith);
+          went-on = λ z. absurd (text-refuses n a q z);
+          none = λ z. absurd (text-refuses n a q z);
         }
 
-    pub end-fine : at next 0 ≡ total → length s ≤ n → (a : Answer) → a .number ≡ 0 → Ended key s (drop i s) total a
+    pub end-fine : at next 0 ≡ total → length s ≤ n → (a : Answer) → a ≡ accepted → Ended key s (drop i s) total a
     end-fine x b a q =
         record {
-          stopped = λ y. absurd (y q);
+          stopped = λ y. absurd (y (ap (λ (r : Answer). r .number) q));
           went-on = λ z c r. ends x c r ∙ ap (closed (length s) c) (drop-end s n b);
+          none = λ z. q;
         }
 
 -- a whole text from its parts
@@ -281,7 +328,7 @@ module _ (form : Form) (s : List ℕ) where
   unfolding reading
   reading-on ns t ts u e q = rw (e, q)
 
--- the last arms of the two tables by place
+-- the last arm of the tables by place
 pub reservations-at : (k : ℕ) → k ≢ 0 → k ≢ 1 → k ≢ 2 → k ≢ 3 → k ≢ 4 → Reservations ≡ tableAt k
 reservations-at zero a b c d e = absurd (a refl)
 reservations-at (suc zero) a b c d e = absurd (b refl)
@@ -289,8 +336,3 @@ reservations-at (suc (suc zero)) a b c d e = absurd (c refl)
 reservations-at (suc (suc (suc zero))) a b c d e = absurd (d refl)
 reservations-at (suc (suc (suc (suc zero)))) a b c d e = absurd (e refl)
 reservations-at (suc (suc (suc (suc (suc k))))) a b c d e = refl
-
-pub nonzone-at : (k : ℕ) → k ≢ 0 → k ≢ 1 → bytes "nonzone" ≡ headAt k
-nonzone-at zero a b = absurd (a refl)
-nonzone-at (suc zero) a b = absurd (b refl)
-nonzone-at (suc (suc k)) a b = refl

@@ -1,6 +1,6 @@
 -- `read` from its parts: the look at ROOM, the judgement of the text, and the tables filled.
 -- Assumes nothing.
-use mathlib.Core.Path.{_≡_, refl, sym, ap, _∙_}
+use mathlib.Core.Path.{_≡_, sym, ap, _∙_}
 use mathlib.Core.Logic.{_≢_, ⊎-elim}
 use mathlib.Core.List.{List, []}
 use Prim.Native.Nat.{ℕ, _*_, _≤_, _<_}
@@ -19,7 +19,7 @@ use Rattle.tables.specs.Counts.{inTurn, roomFor}
 use Rattle.text.proofs.Stores.{stored-none}
 use Rattle.monthfile.specs.declared.Reading.{Reading}
 use Rattle.monthfile.specs.Form.{monthForm}
-use Rattle.monthfile.specs.Reading.{Outcome, got, refused, Contents, reading}
+use Rattle.monthfile.specs.Reading.{got, refused, reading}
 use Rattle.monthfile.specs.Calls.{fullSize, readRoom, readOutcome, readAnswer, tablesIn, filled, Reads}
 use Rattle.monthfile.specs.Walks.{JudgedAs, Body, Ready, FilledFrom}
 
@@ -94,15 +94,12 @@ module _ (text : List ℕ) (lent : Tables) (room : Answer) (r : room ≡ readRoo
     unfolding readOutcome
     by-text = rw (eq-eqb (readRoom lent .number) 0 (room-number ∙ z))
 
-    refused-none : held .answer .number ≢ 0 → (o : Outcome Contents) → held ≡ readAnswer o → tablesIn o ≡ []
-    refused-none d (refused a) e = refl
-    refused-none d (got c rest) e = absurd (d (ap (λ (h : Reading). h .answer .number) e))
-
-    pub read-refused : held .answer .number ≢ 0 → Reads text lent lent held
-    read-refused d =
+    pub read-refused : held .answer .number ≢ 0 → (r : Reading) → r ≡ readAnswer (refused (held .answer)) → Reads text lent lent r
+    read-refused d r q =
+        let outcome : readOutcome text lent ≡ refused (held .answer) = by-text ∙ j .stopped d in
         record {
-          answers = j .answers ∙ ap readAnswer (sym by-text);
-          stores = nothing-filled lent ∙ ap (filled lent) (sym (ap tablesIn by-text ∙ refused-none d (reading monthForm text) (j .answers)));
+          answers = q ∙ ap readAnswer (sym outcome);
+          stores = nothing-filled lent ∙ ap (λ o. filled lent (tablesIn o)) (sym outcome);
         }
 
     module _ (y : held .answer .number ≡ 0) where
@@ -110,7 +107,7 @@ module _ (text : List ℕ) (lent : Tables) (room : Answer) (r : room ≡ readRoo
       holds = j .holds y
 
       held-is : held ≡ readAnswer (got (holds .contents) [])
-      held-is = j .answers ∙ ap readAnswer (holds .whole)
+      held-is = j .answers y ∙ ap readAnswer (holds .whole)
 
       fine : AllFine (λ table. fullSize table (length (wordsOf lent table)))
       unfolding readRoom
@@ -136,7 +133,7 @@ module _ (text : List ℕ) (lent : Tables) (room : Answer) (r : room ≡ readRoo
       pub read-filled : (after : Tables) → FilledFrom text body lent after → Reads text lent after held
       read-filled after f =
           record {
-            answers = j .answers ∙ ap readAnswer (sym by-text);
+            answers = j .answers y ∙ ap readAnswer (sym by-text);
             stores =
                 f .fills (holds .contents .tables) (holds .rest) (holds .held)
                 ∙ ap (λ o. filled lent (tablesIn o)) (sym (by-text ∙ holds .whole));

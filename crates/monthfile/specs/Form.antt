@@ -1,6 +1,6 @@
 -- The form of a month file: which lines, with which keys, in which order.
 -- Assumes nothing.
-use Prim.Native.Nat.{ℕ, zero, suc}
+use Prim.Native.Nat.{ℕ}
 use mathlib.Core.List.{List, [], _∷_}
 use Rattle.text.specs.Bytes.{bytes}
 use Rattle.tables.specs.declared.Table.{Table}
@@ -42,9 +42,3 @@ monthForm =
           kindOf Zones ∷ kindOf Owners ∷ kindOf Units ∷ kindOf Accounts ∷ kindOf Loads ∷ kindOf Reservations ∷ [];
       last = bytes "end";
     }
-
--- the first lines by their place
-abbrev pub headAt : ℕ → List ℕ
-headAt zero = bytes "month"
-headAt (suc zero) = bytes "days"
-headAt (suc (suc k)) = bytes "nonzone"

@@ -54,17 +54,19 @@ countsOf (t ∷ ts) = t .count ∷ countsOf ts
 pub record Ended (key s rest : List ℕ) (rows : ℕ) (a : Answer) : Type 0 where
   pub stopped : a .number ≢ 0 → (c : Contents) → rowsIn (c .tables) ≡ rows → ending (length s) key c rest ≡ refused a
   pub went-on : a .number ≡ 0 → (c : Contents) → rowsIn (c .tables) ≡ rows → ending (length s) key c rest ≡ got c []
+  pub none : a .number ≡ 0 → a ≡ accepted
 
--- a whole text judged: what `read` answers, and where the tables begin if it is accepted
+-- a whole text judged: its refusal; or what `read` answers, and where the tables begin
 pub record JudgedAs (s : List ℕ) (held : Reading) (body : ℕ) : Type 0 where
-  pub answers : held ≡ readAnswer (reading monthForm s)
+  pub stopped : held .answer .number ≢ 0 → reading monthForm s ≡ refused (held .answer)
+  pub answers : held .answer .number ≡ 0 → held ≡ readAnswer (reading monthForm s)
   pub holds : held .answer .number ≡ 0 → Body s body (reading monthForm s)
 
--- what `read` answers, by the numbers of the first lines and how many rows each table has
-abbrev pub readingOf : List ℕ → List ℕ → Reading
-readingOf head counts =
+-- an answer with the numbers of the first lines and how many rows each table has
+abbrev pub readingOf : Answer → List ℕ → List ℕ → Reading
+readingOf answer head counts =
     record {
-      answer = accepted;
+      answer = answer;
       month = at head 0;
       days = at head 1;
       nonzone = at head 2;

@@ -6,7 +6,7 @@ ghost use Rattle.answer.specs.Numbers as numbers;
 ghost use Rattle.answer.specs.Turns.{accepted, refuse};
 ghost use Rattle.tables.specs.Shape.{number, width, limit, tableAt};
 ghost use Rattle.text.specs.Lines.{line};
-ghost use Rattle.monthfile.specs.Form.{key, monthForm, headAt};
+ghost use Rattle.monthfile.specs.Form.{key, monthForm};
 ghost use Rattle.monthfile.specs.Reading.{refused, rows, heads, tables};
 ghost use Rattle.monthfile.specs.Calls.{readAnswer};
 ghost use Rattle.monthfile.specs.Walks.{CountedAt, OneTaken, Walked, Ended, JudgedAs, countsOf, readingOf};
@@ -16,8 +16,6 @@ use crate::row;
 use crate::row::Counted;
 use answer::Answer;
 use tables::Table;
-
-const HEADS: usize = 3;
 
 const TABLES: usize = 6;
 
@@ -60,38 +58,31 @@ fn one_number(text: &[u8], at: usize, key: &[u8], words: &mut [u64], place: usiz
     if next == 0 {
         return 0;
     }
-    text::line::take_line(text, at, key, 1, words, place);
+    text::reader::take_next_line(text, at, key, 1, words, place);
     next
 }
 
-// Line `k` of the head, counted from 0.
-fn head_line(text: &[u8], at: usize, k: usize, head: &mut [u64]) -> usize
-    requires { ⌜ k < length (now head) ⌝ }
-    ensures { λ r. ⌜ OneTaken (now (text .entry)) (line (headAt k) 1 (drop at (now (text .entry)))) (now (head .entry)) k r (now (head .exit)) ⌝ }
-{
-    match k {
-        0 => one_number(text, at, &keys::MONTH, head, k),
-        1 => one_number(text, at, &keys::DAYS, head, k),
-        _ => one_number(text, at, &keys::NONZONE, head, k),
-    }
-}
-
-// The first lines in turn.
+// The first lines in turn: one reader steps over `month` and `days`.
 fn judge_heads(text: &[u8], head: &mut [u64]) -> Walk
     requires { ⌜ length (now head) ≡ 3 ⌝ }
     ensures { λ r. ⌜ Walked (now (text .entry)) (heads (length (now (text .entry))) (monthForm .heads) (now (text .entry))) (λ ns. ns) (now (head .entry)) r (now (head .exit)) ⌝ }
 {
-    let mut i = 0;
-    let mut k = 0;
-    while k < HEADS {
-        let next = head_line(text, i, k, head);
-        if next == 0 {
-            return unfit(i);
-        }
-        i = next;
-        k += 1;
+    let ends = text::reader::next_two_lines(text, 0, &keys::MONTH, &keys::DAYS, 1);
+    let month = ends.first;
+    let days = ends.second;
+    if month == 0 {
+        return unfit(0);
     }
-    fine(i)
+    if days == month {
+        return unfit(month);
+    }
+    text::reader::take_next_line(text, 0, &keys::MONTH, 1, head, 0);
+    text::reader::take_next_line(text, month, &keys::DAYS, 1, head, 1);
+    let nonzone = one_number(text, days, &keys::NONZONE, head, 2);
+    if nonzone == 0 {
+        return unfit(days);
+    }
+    fine(nonzone)
 }
 
 // The table of each kind of rows, in the order of the file.
@@ -221,7 +212,7 @@ pub fn nothing_read(answer: Answer) -> Reading
     }
 }
 
-// What the first walk finds: the answer of `read`, and where the tables begin.
+// What the first walk finds: what the text holds, with its first refusal if there is one, and where the tables begin.
 pub struct Judged {
     pub held: Reading,
     pub body: usize,
@@ -236,17 +227,13 @@ fn stopped(answer: Answer) -> Judged
     }
 }
 
-// What an accepted text holds, by its head and its counts.
-fn found(head: &[u64], counts: &[u64]) -> Reading
+// What a text holds by its head and its counts, with the answer to its last line.
+fn found(answer: Answer, head: &[u64], counts: &[u64]) -> Reading
     requires { ⌜ (length (now head) ≡ 3) × (length (now counts) ≡ 6) ⌝ }
-    ensures { λ r. ⌜ r ≡ readingOf (now (head .entry)) (now (counts .entry)) ⌝ }
+    ensures { λ r. ⌜ r ≡ readingOf answer (now (head .entry)) (now (counts .entry)) ⌝ }
 {
     Reading {
-        answer: Answer {
-            number: answer::ACCEPTED,
-            table: answer::HEAD,
-            row: 0,
-        },
+        answer,
         month: head[0],
         days: head[1],
         nonzone: head[2],
@@ -278,11 +265,8 @@ pub fn judge_text(text: &[u8]) -> Judged
         return stopped(second);
     }
     let end = judge_end(text, last, lists::sum_capped(&counts, u64::MAX));
-    if end.number != answer::ACCEPTED {
-        return stopped(end);
-    }
     Judged {
-        held: found(&head, &counts),
+        held: found(end, &head, &counts),
         body,
     }
 }

@@ -62,7 +62,7 @@ pub fn read(
     let held = judged.held;
     let answer = held.answer;
     if answer.number != answer::ACCEPTED {
-        return held;
+        return judge::nothing_read(answer);
     }
     fill::fill(
         text,

@@ -50,7 +50,7 @@ pub(crate) fn take_rows(
     let mut place = 0;
     while 0 < left {
         left -= 1;
-        i = text::line::take_line(text, i, key, width, words, place);
+        i = text::reader::take_next_line(text, i, key, width, words, place);
         place += width;
     }
     i

@@ -14,7 +14,7 @@ use Rattle.text.specs.declared.reader.Reader.{Reader}
 use Rattle.text.specs.Numbers.{Found, found}
 use Rattle.text.specs.Lines.{line, lineText, fieldsText}
 use Rattle.text.specs.Places.{LineAt, EndAt}
-use Rattle.text.specs.Readers.{Stepped, reachedOf}
+use Rattle.text.specs.Readers.{Stepped, EndsAt, reachedOf}
 use Rattle.text.proofs.Lines.{Line, line-back}
 use Rattle.text.proofs.Pieces.{length-key}
 
@@ -62,14 +62,29 @@ reached-is s i o n a = go (eqb n i) refl
           unfit = λ z. absurd (moved (let q : n ≡ 0 = z in omega arith));
         }
 
+-- a reader that stands at an offset of a text ends where a line from that offset on does
+pub stepped-end : (text : RefT (List ℕ)) (i : ℕ) (key : List ℕ) (width : ℕ) (before after : Reader)
+    → (before .text ≡ text) × (before .at ≡ i) → Stepped before key width after
+    → EndAt (now text) i (line key width (drop i (now text))) (after .at)
+stepped-end text i key width before after e a =
+    let there : EndAt (now text) (before .at) (line key width (drop (before .at) (now text))) (after .at) =
+    subst (λ (t : RefT (List ℕ)). EndAt (now t) (before .at) (line key width (drop (before .at) (now t))) (after .at)) (e .0) (a .end-is) in
+    subst (λ j. EndAt (now text) j (line key width (drop j (now text))) (after .at)) (e .1) there
+
 -- a reader that is made at an offset and steps once reaches what the scanner answers there
 pub next-line-is : (text : RefT (List ℕ)) (i : ℕ) (key : List ℕ) (width : ℕ) (made moved : Reader) (r : ℕ)
     → (made .text ≡ text) × (made .at ≡ i) → Stepped made key width moved → r ≡ reachedOf i (moved .at)
     → LineAt (now text) (line key width (drop i (now text))) r
 next-line-is text i key width made moved r e a q =
-    let there : EndAt (now text) (made .at) (line key width (drop (made .at) (now text))) (moved .at) =
-    subst (λ (t : RefT (List ℕ)). EndAt (now t) (made .at) (line key width (drop (made .at) (now t))) (moved .at)) (e .0) (a .end-is) in
-    let here : EndAt (now text) i (line key width (drop i (now text))) (moved .at) =
-    subst (λ j. EndAt (now text) j (line key width (drop j (now text))) (moved .at)) (e .1) there in
     subst (LineAt (now text) (line key width (drop i (now text)))) (sym q)
-    (reached-is (now text) i (line key width (drop i (now text))) (moved .at) here)
+    (reached-is (now text) i (line key width (drop i (now text))) (moved .at) (stepped-end text i key width made moved e a))
+
+-- and one that steps twice carries its place from the first line to the second
+pub two-lines-are : (text : RefT (List ℕ)) (i : ℕ) (one two : List ℕ) (width : ℕ) (made once twice : Reader)
+    → (made .text ≡ text) × (made .at ≡ i) → Stepped made one width once → Stepped once two width twice
+    → EndsAt (now text) i one two width (record { first = once .at; second = twice .at })
+two-lines-are text i one two width made once twice e a b =
+    record {
+      first-is = stepped-end text i one width made once e a;
+      second-is = stepped-end text (once .at) two width once twice (a .same ∙ e .0, refl) b;
+    }

@@ -1,6 +1,6 @@
 -- The contracts determine the answers: two answers, and two lent memories after, that one of them allows are equal.
 -- Assumes nothing.
-use mathlib.Core.Path.{_≡_, sym, ap, _∙_}
+use mathlib.Core.Path.{_≡_, sym, ap, _∙_, subst}
 use mathlib.Core.Logic.{_≢_, _⊎_, inl, inr}
 use mathlib.Core.Bool.{true, false}
 use mathlib.Core.List.{List}
@@ -13,10 +13,11 @@ use denote.Ref.{RefT, now}
 use Rattle.lists.proofs.Ranks.{true-or-false}
 use Rattle.text.specs.declared.number.Number.{Number}
 use Rattle.text.specs.declared.reader.Reader.{Reader}
+use Rattle.text.specs.declared.reader.Ends.{Ends}
 use Rattle.text.specs.Numbers.{Found, found, missing}
 use Rattle.text.specs.Lines.{line}
 use Rattle.text.specs.Places.{NumberAt, LineAt, EndAt, Put, Sized, Taken}
-use Rattle.text.specs.Readers.{Stepped}
+use Rattle.text.specs.Readers.{Stepped, EndsAt}
 use Rattle.text.proofs.Numbers.{never}
 
 -- two offsets with the same text behind them
@@ -76,7 +77,7 @@ pub end-at-unique : (s : List ℕ) (i : ℕ) (o : Found (List ℕ)) (n m : ℕ) 
 end-at-unique s i o n m a b =
     same-place s o i n m ((λ d. (a .inside d, a .fits d)), a .unfit) ((λ d. (b .inside d, b .fits d)), b .unfit)
 
--- `take_line`
+-- `reader::take_next_line`
 pub taken-unique : (s : List ℕ) (o : Found (List ℕ)) (lent : List ℕ) (place n m : ℕ) (after after′ : List ℕ)
     → Taken s o lent place n after → Taken s o lent place m after′ → (n ≡ m) × (after ≡ after′)
 taken-unique s o lent place n m after after′ a b =
@@ -105,3 +106,13 @@ stepped-unique before key width after other a b =
     let same-at : after .at ≡ other .at =
     end-at-unique (now (before .text)) (before .at) (line key width (drop (before .at) (now (before .text)))) (after .at) (other .at) (a .end-is) (b .end-is) in
     λ i. record { text = same-text i; at = same-at i }
+
+-- `reader::next_two_lines`
+pub ends-at-unique : (s : List ℕ) (i : ℕ) (one two : List ℕ) (width : ℕ) (r q : Ends) → EndsAt s i one two width r → EndsAt s i one two width q → r ≡ q
+ends-at-unique s i one two width r q a b =
+    let first : r .first ≡ q .first = end-at-unique s i (line one width (drop i s)) (r .first) (q .first) (a .first-is) (b .first-is) in
+    let there : EndAt s (q .first) (line two width (drop (q .first) s)) (r .second) =
+    subst (λ j. EndAt s j (line two width (drop j s)) (r .second)) first (a .second-is) in
+    let second : r .second ≡ q .second =
+    end-at-unique s (q .first) (line two width (drop (q .first) s)) (r .second) (q .second) there (b .second-is) in
+    λ j. record { first = first j; second = second j }

@@ -132,7 +132,7 @@ fn take_fields(text: &[u8], at: usize, width: usize, words: &mut [u64], place: u
 }
 
 // Stores the fields of the line at `at`, which is known to be there, in `words` from `place` on, and answers the offset behind it.
-pub fn take_line(
+pub(crate) fn take_line(
     text: &[u8],
     at: usize,
     key: &[u8],

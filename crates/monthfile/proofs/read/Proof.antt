@@ -21,11 +21,14 @@ returns c =
 judge-text-requires : tie.Need-judge-text-requires
 judge-text-requires c κs = search needs
 
+nothing-read-requires-2 : tie.Need-nothing-read-requires-2
+nothing-read-requires-2 c κs = search needs
+
 returns-2 : tie.Need-returns-2
 returns-2 c =
-    read-refused (c .before .before .before .before .before .before .before .before .before .before .before .before .before .before .before .args .text .now) (tablesOf (c .before .before .before .before .before .before .before .before .before .before .before .before .before .before .before .args .zones .now) (c .before .before .before .before .before .before .before .before .before .before .before .before .before .before .before .args .owners .now) (c .before .before .before .before .before .before .before .before .before .before .before .before .before .before .before .args .units .now) (c .before .before .before .before .before .before .before .before .before .before .before .before .before .before .before .args .accounts .now) (c .before .before .before .before .before .before .before .before .before .before .before .before .before .before .before .args .loads .now) (c .before .before .before .before .before .before .before .before .before .before .before .before .before .before .before .args .reservations .now)) (c .before .before .before .before .before .before .before .judge-room .result)
-    (rooms-in-turn (tablesOf (c .before .before .before .before .before .before .before .before .before .before .before .before .before .before .before .args .zones .now) (c .before .before .before .before .before .before .before .before .before .before .before .before .before .before .before .args .owners .now) (c .before .before .before .before .before .before .before .before .before .before .before .before .before .before .before .args .units .now) (c .before .before .before .before .before .before .before .before .before .before .before .before .before .before .before .args .accounts .now) (c .before .before .before .before .before .before .before .before .before .before .before .before .before .before .before .args .loads .now) (c .before .before .before .before .before .before .before .before .before .before .before .before .before .before .before .args .reservations .now)) (c .before .before .before .before .before .before .before .judge-room .result) (c .before .before .before .before .before .before .before .judge-room .ensures))
-    (c .before .before .before .before .before .if1 .left) (c .before .before .before .before .judge-text .result .held) (c .before .before .before .before .judge-text .result .body) (c .before .before .before .before .judge-text .ensures) (c .if2 .taken)
+    read-refused (c .before .before .before .before .before .before .before .before .before .before .before .before .before .before .before .before .args .text .now) (tablesOf (c .before .before .before .before .before .before .before .before .before .before .before .before .before .before .before .before .args .zones .now) (c .before .before .before .before .before .before .before .before .before .before .before .before .before .before .before .before .args .owners .now) (c .before .before .before .before .before .before .before .before .before .before .before .before .before .before .before .before .args .units .now) (c .before .before .before .before .before .before .before .before .before .before .before .before .before .before .before .before .args .accounts .now) (c .before .before .before .before .before .before .before .before .before .before .before .before .before .before .before .before .args .loads .now) (c .before .before .before .before .before .before .before .before .before .before .before .before .before .before .before .before .args .reservations .now)) (c .before .before .before .before .before .before .before .before .judge-room .result)
+    (rooms-in-turn (tablesOf (c .before .before .before .before .before .before .before .before .before .before .before .before .before .before .before .before .args .zones .now) (c .before .before .before .before .before .before .before .before .before .before .before .before .before .before .before .before .args .owners .now) (c .before .before .before .before .before .before .before .before .before .before .before .before .before .before .before .before .args .units .now) (c .before .before .before .before .before .before .before .before .before .before .before .before .before .before .before .before .args .accounts .now) (c .before .before .before .before .before .before .before .before .before .before .before .before .before .before .before .before .args .loads .now) (c .before .before .before .before .before .before .before .before .before .before .before .before .before .before .before .before .args .reservations .now)) (c .before .before .before .before .before .before .before .before .judge-room .result) (c .before .before .before .before .before .before .before .before .judge-room .ensures))
+    (c .before .before .before .before .before .before .if1 .left) (c .before .before .before .before .before .judge-text .result .held) (c .before .before .before .before .before .judge-text .result .body) (c .before .before .before .before .before .judge-text .ensures) (c .before .if2 .taken) (c .nothing-read2 .result) (c .nothing-read2 .ensures)
 
 fill-requires : tie.Need-fill-requires
 fill-requires c κs =
@@ -67,6 +70,7 @@ read-spec =
     nothing-read-requires
     returns
     judge-text-requires
+    nothing-read-requires-2
     returns-2
     fill-requires
     same-length

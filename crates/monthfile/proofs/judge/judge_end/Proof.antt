@@ -1,9 +1,8 @@
 -- `monthfile::judge::judge_end` meets its contract.
 -- Assumes nothing.
-use mathlib.Core.Path.{refl, ap, _∙_}
+use mathlib.Core.Path.{refl, _∙_}
 use mathlib.Core.List.{[], _∷_}
-use Rattle.answer.specs.declared.Answer.{Answer}
-use Rattle.answer.proofs.Turns.{refuse-number}
+use Rattle.answer.proofs.Turns.{refuse-none}
 use Rattle.monthfile.specs.Form.{monthForm}
 use Rattle.monthfile.proofs.LineWalks.{end-missing, end-other, end-behind, end-fine}
 use borrow.Author.Needs.{needs}
@@ -53,7 +52,7 @@ returns-4 : tie.Need-returns-4
 returns-4 c =
     end-fine (monthForm .last) (c .before .before .before .before .before .before .before .before .before .args .text .now) (c .before .before .before .before .before .before .before .before .before .args .at) (c .before .before .before .before .before .before .before .before .before .args .total) (c .before .before .before .before .before .before .before .before .before .pre) (0 ∷ []) (c .before .before .before .before .before .one-number .result)
     (c .before .before .before .before .before .one-number .last .1 .1 .1 .0) (c .before .before .before .before .before .one-number .ensures) refl (c .before .before .before .if1 .left) (c .before .before .if2 .left) (c .before .if3 .left) (c .refused4 .result)
-    (ap (λ (r : Answer). r .number) (c .refused4 .ensures) ∙ refuse-number 0 0 0)
+    (c .refused4 .ensures ∙ refuse-none 0 0 0 refl)
 
 pub judge-end-spec : {M : Type 1} → statement M
 judge-end-spec =

@@ -1,82 +1,102 @@
 -- `monthfile::judge::judge_heads` meets its contract.
 -- Assumes nothing.
-use mathlib.Core.Path.{_≡_, refl, _∙_}
-use Prim.Native.Nat.{_≤_, _-_}
 use native.Mathlib.Omega.{arith}
-use lib.ListN.{length, drop}
-use Rattle.monthfile.specs.Form.{monthForm}
-use Rattle.monthfile.specs.Reading.{heads}
-use Rattle.monthfile.proofs.LineWalks.{Walking, walk-start, itself, itself-more, head-stop, head-next, head-end}
+use Rattle.monthfile.proofs.LineWalks.{month-stop, month-there, days-stop, days-there, nonzone-stop, nonzone-end}
 use borrow.Author.Needs.{needs}
 use Rattle.monthfile.proofs.judge.judge_heads.Statement.{statement}
 use Rattle.monthfile.proofs.judge.judge_heads.Tie as tie
 
-abbrev Inv-loop : tie.InvT-loop
-Inv-loop text head₀ i₀ k₀ head i k =
-    (i ≤ length text) × (k ≤ 3) × (length head ≡ length head₀)
-    × Walking (heads (length text) (monthForm .heads) text) (heads (length text) (drop k (monthForm .heads)) (drop i text)) itself head₀ head k
+slice-aggregate-next-two-lines : tie.Need-slice-aggregate-next-two-lines
+slice-aggregate-next-two-lines c = search needs
 
-abbrev μ-loop : tie.MeasureT-loop
-μ-loop text head₀ i₀ k₀ head i k = 3 - k
+slice-aggregate-next-two-lines-2 : tie.Need-slice-aggregate-next-two-lines-2
+slice-aggregate-next-two-lines-2 c = search needs
 
-loop-holds : tie.Need-loop-holds Inv-loop μ-loop
-loop-holds c = (omega arith, omega arith, refl, walk-start itself refl itself-more _ _)
+next-two-lines-requires : tie.Need-next-two-lines-requires
+next-two-lines-requires c κs = search needs
 
-head-line-requires : tie.Need-head-line-requires Inv-loop μ-loop
-head-line-requires c κs = omega (arith, c .before .before .loop .inv .2, c .before .before .before .before .before .pre)
-
-unfit-requires : tie.Need-unfit-requires Inv-loop μ-loop
+unfit-requires : tie.Need-unfit-requires
 unfit-requires c κs = search needs
 
-same-length : tie.Need-same-length Inv-loop μ-loop
-same-length c = c .before .before .before .before .head-line .kept .1 .1 .1 .0 ∙ c .before .before .before .before .before .before .before .loop .inv .2
-
-returns : tie.Need-returns Inv-loop μ-loop
+returns : tie.Need-returns
 returns c =
-    head-stop (c .before .before .before .before .before .before .before .before .before .before .args .text .now) _ (c .before .before .before .before .before .before .before .before .before .before .args .head .now) (c .before .before .before .before .before .before .before .loop .head) (c .before .before .before .before .before .before .before .loop .i) (c .before .before .before .before .before .before .before .loop .k) (c .before .before .before .before .before .before .before .loop .inv .3) (c .before .before .before .before .before .before .before .loop .inv .0) (c .before .before .before .before .before .before .loop-test .taken)
-    (c .before .before .before .before .head-line .result) (c .before .before .before .before .head-line .last .1 .1 .1 .0) (c .before .before .before .before .head-line .ensures) (c .before .if1 .taken) (c .unfit .result) (c .unfit .ensures) _
+    let a = c .before .before .before .before .before .before .before .args in
+    month-stop (a .text .now) (a .head .now) _ (c .before .before .next-two-lines .ensures) (c .before .if1 .taken) _ (c .unfit .ensures) _
 
-add-k : tie.Need-add-k Inv-loop μ-loop
-add-k c = search needs
+unfit-requires-2 : tie.Need-unfit-requires-2
+unfit-requires-2 c κs = search needs
 
-loop-less : tie.Need-loop-less Inv-loop μ-loop
-loop-less c = search needs
+returns-2 : tie.Need-returns-2
+returns-2 c =
+    let a = c .before .before .before .before .before .before .before .before .args in
+    days-stop (a .text .now) (a .head .now) _ (c .before .before .before .next-two-lines .ensures) (c .before .before .if1 .left) (c .before .if2 .taken) _ (c .unfit2 .ensures) _
 
-loop-again : tie.Need-loop-again Inv-loop μ-loop
-loop-again c = (
-  c .before .before .before .head-line .ensures .line-is .inside,
-  omega arith,
-  c .before .before .before .head-line .kept .1 .1 .1 .0 ∙ c .before .before .before .before .before .before .loop .inv .2,
-  head-next (c .before .before .before .before .before .before .before .before .before .args .text .now) _ (c .before .before .before .before .before .before .before .before .before .args .head .now) (c .before .before .before .before .before .before .loop .head) (c .before .before .before .before .before .before .loop .i) (c .before .before .before .before .before .before .loop .k) (c .before .before .before .before .before .before .loop .inv .3) (c .before .before .before .before .before .before .loop .inv .0) (c .before .before .before .before .before .loop-test .taken)
-      (c .before .before .before .head-line .result) (c .before .before .before .head-line .last .1 .1 .1 .0) (c .before .before .before .head-line .ensures) (c .if1 .left),
-)
+slice-aggregate-take-next-line : tie.Need-slice-aggregate-take-next-line
+slice-aggregate-take-next-line c = search needs
 
-fine-requires : tie.Need-fine-requires Inv-loop μ-loop
+take-next-line-requires : tie.Need-take-next-line-requires
+take-next-line-requires c κs =
+    let a = c .before .before .before .before .before .before .before .before .before .args in
+    (month-there (a .text .now) (a .head .now) _ (c .before .before .before .before .next-two-lines .ensures) (c .before .before .before .if1 .left), omega arith)
+
+slice-aggregate-take-next-line-2 : tie.Need-slice-aggregate-take-next-line-2
+slice-aggregate-take-next-line-2 c = search needs
+
+take-next-line-requires-2 : tie.Need-take-next-line-requires-2
+take-next-line-requires-2 c κs =
+    let a = c .before .before .before .before .before .before .before .before .before .before .before .before .before .before .args in
+    (days-there (a .text .now) (a .head .now) _ (c .before .before .before .before .before .before .before .before .before .next-two-lines .ensures) (c .before .before .before .before .before .before .before .before .if1 .left) (c .before .before .before .before .before .before .before .if2 .left), omega (arith, c .before .before .before .before .take-next-line .kept .1 .1 .1 .1 .0))
+
+slice-aggregate-one-number : tie.Need-slice-aggregate-one-number
+slice-aggregate-one-number c = search needs
+
+one-number-requires : tie.Need-one-number-requires
+one-number-requires c κs = search needs
+
+unfit-requires-3 : tie.Need-unfit-requires-3
+unfit-requires-3 c κs = search needs
+
+same-length : tie.Need-same-length
+same-length c = search needs
+
+returns-3 : tie.Need-returns-3
+returns-3 c =
+    let a = c .before .before .before .before .before .before .before .before .before .before .before .before .before .before .before .before .before .before .before .before .before .before .before .before .args in
+    nonzone-stop (a .text .now) (a .head .now) _ (c .before .before .before .before .before .before .before .before .before .before .before .before .before .before .before .before .before .before .before .next-two-lines .ensures) (c .before .before .before .before .before .before .before .before .before .before .before .before .before .before .before .before .before .before .if1 .left) (c .before .before .before .before .before .before .before .before .before .before .before .before .before .before .before .before .before .if2 .left) _ _
+    (c .before .before .before .before .before .before .before .before .before .before .before .before .before .before .take-next-line .ensures .written) (c .before .before .before .before .before .before .before .before .before .take-next-line2 .ensures .written) _ _ (c .before .before .before .before .one-number .ensures) (c .before .if3 .taken) _ (c .unfit3 .ensures) _
+
+fine-requires : tie.Need-fine-requires
 fine-requires c κs = search needs
 
-same-length-2 : tie.Need-same-length-2 Inv-loop μ-loop
-same-length-2 c = c .before .before .loop .inv .2
+same-length-2 : tie.Need-same-length-2
+same-length-2 c = search needs
 
-returns-2 : tie.Need-returns-2 Inv-loop μ-loop
-returns-2 c =
-    let a = c .before .before .before .before .before .args in
-    let l = c .before .before .loop in
-    head-end (a .text .now) _ (a .head .now) (l .head) (l .i) (l .k) (l .inv .3) (l .inv .0) (c .before .loop-test .left) (c .fine .result) (c .fine .ensures)
+returns-4 : tie.Need-returns-4
+returns-4 c =
+    let a = c .before .before .before .before .before .before .before .before .before .before .before .before .before .before .before .before .before .before .before .before .before .before .before .before .args in
+    nonzone-end (a .text .now) (a .head .now) _ (c .before .before .before .before .before .before .before .before .before .before .before .before .before .before .before .before .before .before .before .next-two-lines .ensures) (c .before .before .before .before .before .before .before .before .before .before .before .before .before .before .before .before .before .before .if1 .left) (c .before .before .before .before .before .before .before .before .before .before .before .before .before .before .before .before .before .if2 .left) _ _
+    (c .before .before .before .before .before .before .before .before .before .before .before .before .before .before .take-next-line .ensures .written) (c .before .before .before .before .before .before .before .before .before .take-next-line2 .ensures .written) _ _ (c .before .before .before .before .one-number .ensures) (c .before .if3 .left) _ (c .fine .ensures)
 
 pub judge-heads-spec : {M : Type 1} → statement M
 judge-heads-spec =
     tie.close
     (tie.spec
-    Inv-loop
-    μ-loop
-    loop-holds
-    head-line-requires
+    slice-aggregate-next-two-lines
+    slice-aggregate-next-two-lines-2
+    next-two-lines-requires
     unfit-requires
-    same-length
     returns
-    add-k
-    loop-less
-    loop-again
+    unfit-requires-2
+    returns-2
+    slice-aggregate-take-next-line
+    take-next-line-requires
+    slice-aggregate-take-next-line-2
+    take-next-line-requires-2
+    slice-aggregate-one-number
+    one-number-requires
+    unfit-requires-3
+    same-length
+    returns-3
     fine-requires
     same-length-2
-    returns-2)
+    returns-4)

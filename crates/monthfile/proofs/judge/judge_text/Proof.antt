@@ -2,7 +2,7 @@
 -- Assumes nothing.
 use mathlib.Core.Path.{refl}
 use mathlib.Core.List.{[], _∷_}
-use Rattle.monthfile.proofs.Judging.{judged-heads, judged-tables, judged-end, judged-fine}
+use Rattle.monthfile.proofs.Judging.{judged-heads, judged-tables, judged-whole}
 use borrow.Author.Needs.{needs}
 use Rattle.monthfile.proofs.judge.judge_text.Statement.{statement}
 use Rattle.monthfile.proofs.judge.judge_text.Tie as tie
@@ -46,17 +46,6 @@ judge-end-requires : tie.Need-judge-end-requires
 judge-end-requires c κs =
     c .before .before .before .before .before .before .judge-tables .ensures .inside
 
-stopped-requires-3 : tie.Need-stopped-requires-3
-stopped-requires-3 c κs =
-    search needs
-
-returns-3 : tie.Need-returns-3
-returns-3 c =
-    judged-end (c .before .before .before .before .before .before .before .before .before .before .before .before .before .before .before .before .before .before .before .args .text .now) (0 ∷ 0 ∷ 0 ∷ []) (c .before .before .before .before .before .before .before .before .before .before .before .before .before .before .before .before .judge-heads .result) (c .before .before .before .before .before .before .before .before .before .before .before .before .before .before .before .before .judge-heads .last .1 .0) (c .before .before .before .before .before .before .before .before .before .before .before .before .before .before .before .before .judge-heads .ensures)
-    (c .before .before .before .before .before .before .before .before .before .before .before .before .if1 .left) (0 ∷ 0 ∷ 0 ∷ 0 ∷ 0 ∷ 0 ∷ []) (c .before .before .before .before .before .before .before .before .before .before .judge-tables .result) (c .before .before .before .before .before .before .before .before .before .before .judge-tables .last .1 .1 .0) (c .before .before .before .before .before .before .before .before .before .before .judge-tables .ensures)
-    (c .before .before .before .before .before .before .if2 .left) refl (c .before .before .before .before .sum-capped .result) (c .before .before .before .before .sum-capped .ensures) (c .before .before .before .judge-end .result) (c .before .before .before .judge-end .ensures)
-    (c .before .if3 .taken) (c .stopped3 .result .held) (c .stopped3 .result .body) (c .stopped3 .ensures)
-
 slice-aggregate-found : tie.Need-slice-aggregate-found
 slice-aggregate-found c = search needs
 
@@ -65,14 +54,14 @@ slice-aggregate-found-2 c = search needs
 
 found-requires : tie.Need-found-requires
 found-requires c κs =
-    (c .before .before .before .before .before .before .before .before .before .before .before .before .before .before .before .before .before .judge-heads .kept .1 .0, c .before .before .before .before .before .before .before .before .before .before .before .judge-tables .kept .1 .1 .0)
+    (c .before .before .before .before .before .before .before .before .before .before .before .before .before .before .before .judge-heads .kept .1 .0, c .before .before .before .before .before .before .before .before .before .judge-tables .kept .1 .1 .0)
 
-returns-4 : tie.Need-returns-4
-returns-4 c =
-    judged-fine (c .before .before .before .before .before .before .before .before .before .before .before .before .before .before .before .before .before .before .before .before .before .args .text .now) (0 ∷ 0 ∷ 0 ∷ []) (c .before .before .before .before .before .before .before .before .before .before .before .before .before .before .before .before .before .before .judge-heads .result) (c .before .before .before .before .before .before .before .before .before .before .before .before .before .before .before .before .before .before .judge-heads .last .1 .0) (c .before .before .before .before .before .before .before .before .before .before .before .before .before .before .before .before .before .before .judge-heads .ensures)
-    (c .before .before .before .before .before .before .before .before .before .before .before .before .before .before .if1 .left) (0 ∷ 0 ∷ 0 ∷ 0 ∷ 0 ∷ 0 ∷ []) (c .before .before .before .before .before .before .before .before .before .before .before .before .judge-tables .result) (c .before .before .before .before .before .before .before .before .before .before .before .before .judge-tables .last .1 .1 .0) (c .before .before .before .before .before .before .before .before .before .before .before .before .judge-tables .ensures)
-    (c .before .before .before .before .before .before .before .before .if2 .left) refl (c .before .before .before .before .before .before .sum-capped .result) (c .before .before .before .before .before .before .sum-capped .ensures) (c .before .before .before .before .before .judge-end .result) (c .before .before .before .before .before .judge-end .ensures)
-    (c .before .before .before .if3 .left) refl (c .found .result) (c .found .ensures)
+returns-3 : tie.Need-returns-3
+returns-3 c =
+    judged-whole (c .before .before .before .before .before .before .before .before .before .before .before .before .before .before .before .before .before .before .before .args .text .now) (0 ∷ 0 ∷ 0 ∷ []) (c .before .before .before .before .before .before .before .before .before .before .before .before .before .before .before .before .judge-heads .result) (c .before .before .before .before .before .before .before .before .before .before .before .before .before .before .before .before .judge-heads .last .1 .0) (c .before .before .before .before .before .before .before .before .before .before .before .before .before .before .before .before .judge-heads .ensures)
+    (c .before .before .before .before .before .before .before .before .before .before .before .before .if1 .left) (0 ∷ 0 ∷ 0 ∷ 0 ∷ 0 ∷ 0 ∷ []) (c .before .before .before .before .before .before .before .before .before .before .judge-tables .result) (c .before .before .before .before .before .before .before .before .before .before .judge-tables .last .1 .1 .0) (c .before .before .before .before .before .before .before .before .before .before .judge-tables .ensures)
+    (c .before .before .before .before .before .before .if2 .left) refl (c .before .before .before .before .sum-capped .result) (c .before .before .before .before .sum-capped .ensures) (c .before .before .before .judge-end .result) (c .before .before .before .judge-end .ensures)
+    refl (c .found .result) (c .found .ensures)
 
 pub judge-text-spec : {M : Type 1} → statement M
 judge-text-spec =
@@ -89,9 +78,7 @@ judge-text-spec =
     slice-aggregate-sum-capped
     sum-capped-requires
     judge-end-requires
-    stopped-requires-3
-    returns-3
     slice-aggregate-found
     slice-aggregate-found-2
     found-requires
-    returns-4)
+    returns-3)

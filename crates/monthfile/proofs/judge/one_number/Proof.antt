@@ -23,16 +23,16 @@ returns c =
           ∙ ap (λ o. stored (a .words .now) (a .place) (fieldsOf o)) (sym (c .before .next-line .ensures .unfit (c .if1 .taken)));
     }
 
-take-line-requires : tie.Need-take-line-requires
-take-line-requires c κs =
+take-next-line-requires : tie.Need-take-next-line-requires
+take-next-line-requires c κs =
     ((λ e. never e (c .before .before .next-line .ensures .fits (c .before .if1 .left) .1)), omega arith)
 
 same-length : tie.Need-same-length
-same-length c = c .before .before .take-line .kept .1 .1 .1 .1 .0
+same-length c = c .before .before .take-next-line .kept .1 .1 .1 .1 .0
 
 returns-2 : tie.Need-returns-2
-returns-2 c = record { line-is = c .before .before .before .before .before .next-line .ensures; written = c .before .before .take-line .ensures .written }
+returns-2 c = record { line-is = c .before .before .before .before .before .next-line .ensures; written = c .before .before .take-next-line .ensures .written }
 
 pub one-number-spec : {M : Type 1} → statement M
 one-number-spec =
-    tie.close (tie.spec next-line-requires returns take-line-requires same-length returns-2)
+    tie.close (tie.spec next-line-requires returns take-next-line-requires same-length returns-2)

@@ -28,8 +28,8 @@ loop-holds c = (c .before .before .before .pre .0, omega arith, c .before .befor
 sub-left : tie.Need-sub-left Inv-loop μ-loop
 sub-left c = search needs
 
-take-line-requires : tie.Need-take-line-requires Inv-loop μ-loop
-take-line-requires c κs =
+take-next-line-requires : tie.Need-take-next-line-requires Inv-loop μ-loop
+take-next-line-requires c κs =
     let a = c .before .before .before .before .before .before .args in
     let l = c .before .before .loop in (
       row-there (a .key .now) (a .width) (a .text .now) (l .i) (l .left) (c .before .loop-test .taken) (l .inv .2),
@@ -47,7 +47,7 @@ loop-again c =
     let a = c .before .before .before .before .before .before .before .before .before .args in
     let l = c .before .before .before .before .before .loop in
     let p = c .before .before .before .before .loop-test .taken in
-    let t = c .before .before .take-line in
+    let t = c .before .before .take-next-line in
     let after = t .last .1 .1 .1 .1 .0 in (
       t .ensures .inside,
       omega (arith, mul-down (c .before .before .before .before .before .loop .left) (c .before .before .before .before .before .before .before .before .before .args .width) (c .before .before .before .before .loop-test .taken), l .inv .1),
@@ -79,7 +79,7 @@ take-rows-spec =
     μ-loop
     loop-holds
     sub-left
-    take-line-requires
+    take-next-line-requires
     add-place
     loop-less
     loop-again
