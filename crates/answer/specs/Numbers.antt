@@ -32,32 +32,32 @@ BASE = 9
 abbrev pub TEXT : ℕ
 TEXT = 10
 
-abbrev pub head : ℕ
-head = 0
+abbrev pub HEAD : ℕ
+HEAD = 0
 
-abbrev pub zones : ℕ
-zones = 1
+abbrev pub ZONES : ℕ
+ZONES = 1
 
-abbrev pub owners : ℕ
-owners = 2
+abbrev pub OWNERS : ℕ
+OWNERS = 2
 
-abbrev pub units : ℕ
-units = 3
+abbrev pub UNITS : ℕ
+UNITS = 3
 
-abbrev pub accounts : ℕ
-accounts = 4
+abbrev pub ACCOUNTS : ℕ
+ACCOUNTS = 4
 
-abbrev pub loads : ℕ
-loads = 5
+abbrev pub LOADS : ℕ
+LOADS = 5
 
-abbrev pub reservations : ℕ
-reservations = 6
+abbrev pub RESERVATIONS : ℕ
+RESERVATIONS = 6
 
-abbrev pub charges : ℕ
-charges = 7
+abbrev pub CHARGES : ℕ
+CHARGES = 7
 
-abbrev pub credits : ℕ
-credits = 8
+abbrev pub CREDITS : ℕ
+CREDITS = 8
 
-abbrev pub divisions : ℕ
-divisions = 9
+abbrev pub DIVISIONS : ℕ
+DIVISIONS = 9

@@ -1,28 +1,26 @@
--- What the code stores is the shares: its whole is the sum of the weights (or 1, where the pot is 0), its keys stand in the
--- order of the remainders, and the cents that it hands out are those left over.
+-- What is dealt out is the shares: the whole is the sum of the weights (or 1, where the pot is 0), the keys stand in the order of
+-- the remainders, and the cents that are handed out are those left over.
 -- Assumes nothing.
 use mathlib.Core.Path.{_≡_, refl, sym, ap, ap₂, _∙_}
 use mathlib.Core.Logic.{_⊎_, inl, inr, ⊎-elim, _≢_}
 use mathlib.Core.Bool.{Bool, true, false, _&&_, _||_}
 use mathlib.Core.List.{List}
-use Prim.Native.Nat.{ℕ, _+_, _-_, _*_, _/_, _%_, _^_, _≤_, _<_}
-use native.Mathlib.Nat.{zero-mul, zero-div, zero-mod, le-of-eq, le-trans}
+use Prim.Native.Nat.{ℕ, _+_, _-_, _*_, _/_, _%_, _≤_, _<_}
+use native.Mathlib.Nat.{zero-mul, zero-div, zero-mod, le-trans}
 use native.Mathlib.Omega.{arith}
 use lib.Dec.{ltb, eqb}
-use lib.ListN.{length, take}
-use lib.Seq.{getD-take, length-take-le}
+use lib.ListN.{length}
 use borrow.Author.Tests.{lt-ltb, le-ltb, eq-eqb, ne-eqb, ltb-false}
-use Rattle.lists.specs.Sums.{sumTo, at, total, bit, rank, largestFirst}
+use Rattle.lists.specs.Sums.{sumTo, at, total, bit, count, rank, largestFirst}
 use Rattle.lists.specs.Entries.{put}
 use Rattle.lists.proofs.Sums.{sum-eq, neither}
-use Rattle.lists.proofs.Entries.{length-put, at-put, put-eq, put-over}
+use Rattle.lists.proofs.Entries.{put-eq}
 use Rattle.lists.proofs.Ranks.{lt-or-le, larger-first, lower-first, smaller-later, higher-later}
+use Rattle.cents.specs.Dealt.{Base, centsOf, keyOf, dealt}
 use Rattle.answer.proofs.Turns.{look-none, zero-or-not}
 use Rattle.division.specs.Limits.{potLimit, weightLimit, mostWeights, sizeRefusal}
 use Rattle.division.specs.Refused.{FineSize}
 use Rattle.division.specs.Shares.{quotient, remainder, leftover, comesBefore, getsCent, share}
-use Rattle.division.proofs.Bounds.{cents-fit, rest-fits}
-use Rattle.division.specs.Steps.{Base, CutDown, centsOf, keyOf, larger, handed}
 
 not-both : (s t : Bool) → (s && t) ≡ false → t ≡ true → s ≡ false
 not-both true t e q = absurd (mathlib.Core.Bool.true≢false (sym q ∙ e))
@@ -70,10 +68,10 @@ base-of pot weights whole size e =
     ⊎-elim
     (λ (z : total weights ≡ 0).
     let one : whole ≡ total weights + 1 = e ∙ ap (λ t. total weights + bit t) (eq-eqb (total weights) 0 z) in
-    record { pot-fits = size .pot-fits; positive = omega arith; whole-fits = omega arith; adds-up = omega arith })
+    record { pot-fits = omega (arith, size .pot-fits); positive = omega arith; whole-fits = omega arith; adds-up = omega arith })
     (λ (d : total weights ≢ 0).
     let same : whole ≡ total weights + 0 = e ∙ ap (λ t. total weights + bit t) (ne-eqb (total weights) 0 d) in
-    record { pot-fits = size .pot-fits; positive = omega arith; whole-fits = omega (arith, size .weights-fit); adds-up = omega arith })
+    record { pot-fits = omega (arith, size .pot-fits); positive = omega arith; whole-fits = omega (arith, size .weights-fit); adds-up = omega arith })
     (zero-or-not (total weights))
 
 -- keys are ordered as their remainders, lower position first among equals
@@ -93,83 +91,36 @@ keyed f i j bi bj =
     (lt-or-le (f i) (f j))
 
 module _
-    (pot : ℕ) (weights : List ℕ) (whole : ℕ) (out out′ keys keys′ : List ℕ) (given : ℕ)
-    (size : FineSize pot (total weights)) (is-whole : whole ≡ total weights + bit (eqb (total weights) 0))
-    (few : length weights ≤ mostWeights) (room : length weights ≤ length out) (key-room : length weights ≤ length keys)
-    (cut : CutDown pot weights whole out out′ keys keys′ given)
+    (pot : ℕ) (weights : List ℕ) (whole : ℕ) (size : FineSize pot (total weights))
+    (is-whole : whole ≡ total weights + bit (eqb (total weights) 0)) (few : length weights ≤ mostWeights)
   where
     cents-is : (i : ℕ) → centsOf pot weights whole i ≡ quotient pot weights i
     unfolding quotient
     cents-is i = same-quotient pot (total weights) whole size is-whole (at weights i)
 
-    rest-is : (i : ℕ) → pot * at weights i % whole ≡ remainder pot weights i
+    key-is : (i : ℕ) → keyOf pot weights whole i ≡ remainder pot weights i * 64 + (63 - i)
     unfolding remainder
-    rest-is i = same-remainder pot (total weights) whole size is-whole (at weights i)
+    key-is i = ap (λ r. r * 64 + (63 - i)) (same-remainder pot (total weights) whole size is-whole (at weights i))
 
-    pub left-is : pot - given ≡ leftover pot weights
+    left-is : pot - sumTo (length weights) (centsOf pot weights whole) ≡ leftover pot weights
     unfolding leftover
-    left-is =
-        ap (λ k. pot - k)
-        (cut .given ∙ sum-eq (length weights) (centsOf pot weights whole) (quotient pot weights) (λ i b. cents-is i))
-
-    pub keys-long : length keys′ ≡ length keys
-    keys-long = ap length (cut .placed) ∙ length-put (length weights) (keyOf pot weights whole) keys
-
-    pub placed-long : length (take (length weights) keys′) ≡ length weights
-    placed-long = length-take-le (length weights) keys′ (rw keys-long key-room)
-
-    key-at : (i : ℕ) → i < length weights → at (take (length weights) keys′) i ≡ remainder pot weights i * 64 + (63 - i)
-    key-at i b =
-        getD-take (length weights) keys′ i 0 b
-        ∙ ap (λ l. at l i) (cut .placed)
-        ∙ at-put (length weights) (keyOf pot weights whole) keys key-room i b
-        ∙ ap (λ r. r * 64 + (63 - i)) (rest-is i)
+    left-is = ap (λ k. pot - k) (sum-eq (length weights) (centsOf pot weights whole) (quotient pot weights) (λ i b. cents-is i))
 
     standing-is : (i : ℕ) → i < length weights
-        → larger (take (length weights) keys′) (at (take (length weights) keys′) i) ≡ rank (length weights) (comesBefore pot weights) i
+        → count (length weights) (λ j. ltb (keyOf pot weights whole i) (keyOf pot weights whole j)) ≡ rank (length weights) (comesBefore pot weights) i
     unfolding comesBefore
     standing-is i b =
-        ap (λ n. sumTo n (λ j. bit (ltb (at (take (length weights) keys′) i) (at (take (length weights) keys′) j)))) placed-long
-        ∙ sum-eq (length weights)
-        (λ j. bit (ltb (at (take (length weights) keys′) i) (at (take (length weights) keys′) j)))
+        sum-eq (length weights)
+        (λ j. bit (ltb (keyOf pot weights whole i) (keyOf pot weights whole j)))
         (λ j. bit (largestFirst (remainder pot weights) j i))
         (λ j h.
-        ap₂ (λ x y. bit (ltb x y)) (key-at i b) (key-at j h)
+        ap₂ (λ x y. bit (ltb x y)) (key-is i) (key-is j)
         ∙ ap bit (keyed (remainder pot weights) i j (le-trans b few) (le-trans h few)))
 
-    pub cents-at : (i : ℕ) → i < length weights → at out′ i ≡ quotient pot weights i
-    cents-at i b =
-        ap (λ l. at l i) (cut .cents) ∙ at-put (length weights) (centsOf pot weights whole) out room i b ∙ cents-is i
+    dealt-is : (i : ℕ) → i < length weights → dealt pot weights whole i ≡ share pot weights i
+    unfolding dealt share getsCent
+    dealt-is i b = ap₂ _+_ (cents-is i) (ap₂ (λ x y. bit (ltb x y)) (standing-is i b) left-is)
 
-    pub out-long : length out′ ≡ length out
-    out-long = ap length (cut .cents) ∙ length-put (length weights) (centsOf pot weights whole) out
-
-    -- what `hand_out` asks of the words that it is lent
-    pub ready : (length (take (length weights) keys′) ≤ length out′)
-        × ((i : ℕ) → i < length (take (length weights) keys′) → (at out′ i ≤ potLimit) × (at (take (length weights) keys′) i < 2 ^ 63))
-    ready = (
-      rw (placed-long, out-long) room,
-      λ i h.
-          let b : i < length weights = rw placed-long at h in
-          let base = base-of pot weights whole size is-whole in (
-            le-trans
-                (le-of-eq (ap (λ l. at l i) (cut .cents) ∙ at-put (length weights) (centsOf pot weights whole) out room i b))
-                (le-trans (cents-fit pot weights whole base i b) (size .pot-fits)),
-            omega (arith, key-at i b, rest-is i, rest-fits pot weights whole base i, base .whole-fits),
-          ),
-    )
-
-    handed-is : (i : ℕ) → i < length weights
-        → handed (pot - given) (take (length weights) keys′) out′ i ≡ share pot weights i
-    unfolding share getsCent
-    handed-is i b = ap₂ _+_ (cents-at i b) (ap₂ (λ x y. bit (ltb x y)) (standing-is i b) left-is)
-
-    pub shared-out : (out″ : List ℕ)
-        → out″ ≡ put (length (take (length weights) keys′)) (handed (pot - given) (take (length weights) keys′) out′) out′
-        → out″ ≡ put (length weights) (share pot weights) out
-    shared-out out″ e =
-        e
-        ∙ ap (λ n. put n (handed (pot - given) (take (length weights) keys′) out′) out′) placed-long
-        ∙ put-eq (length weights) (handed (pot - given) (take (length weights) keys′) out′) (share pot weights) out′ handed-is
-        ∙ ap (put (length weights) (share pot weights)) (cut .cents)
-        ∙ put-over (length weights) (centsOf pot weights whole) (share pot weights) out room
+    pub shared-out : (out out′ : List ℕ) → out′ ≡ put (length weights) (dealt pot weights whole) out
+        → out′ ≡ put (length weights) (share pot weights) out
+    shared-out out out′ e = e ∙ put-eq (length weights) (dealt pot weights whole) (share pot weights) out dealt-is

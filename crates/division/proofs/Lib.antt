@@ -1,8 +1,3 @@
-pub mod Doubling
-pub mod Bits
-pub mod Bounds
-pub mod Cutting
-pub mod Standing
 pub mod Handed
 pub mod Refusals
 pub mod Reasons

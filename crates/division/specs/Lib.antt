@@ -1,4 +1,3 @@
 pub mod Limits
 pub mod Shares
 pub mod Refused
-pub mod Steps

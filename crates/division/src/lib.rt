@@ -1,17 +1,20 @@
 // Dividing a pot by weights. Every share is first cut down to whole cents, and the cents left over go one each to the largest
-// fractions cut off, lower position first. `specs/` says what is right, `proofs/Promises.antt` what follows from it, and
-// `proofs/Laws.antt` what the crates above may cite.
+// fractions cut off, lower position first: the work is done in `cents`. `specs/` says what is right, `proofs/Promises.antt` what
+// follows from it, and `proofs/Laws.antt` what the crates above may cite.
 use answer::ACCEPTED;
 use answer::Answer;
 use answer::COUNT;
 use answer::HEAD;
 use answer::ROOM;
 ghost use mathlib.Core.Path.{_≡_};
-ghost use Rattle.division.specs.Shares.{Divided};
+ghost use Prim.Native.Nat.{_≤_};
+ghost use lib.ListN.{length};
+ghost use Rattle.lists.specs.Sums.{total};
+ghost use Rattle.lists.specs.Entries.{put};
+ghost use Rattle.division.specs.Limits.{mostWeights, sizeRefusal};
+ghost use Rattle.division.specs.Shares.{share, Divided};
 
-mod cents;
 pub mod limits;
-mod quotients;
 
 // What `divide` answers.
 pub struct Division {
@@ -28,6 +31,16 @@ fn answered(number: u64) -> Division
             row: 0,
         },
     }
+}
+
+// Writes the shares to the first words of `out`. A sum of zero, which goes with a pot of zero, is divided by one instead.
+fn share_out(pot: u64, weights: &[u64], sum: u64, out: &mut [u64])
+    requires { ⌜ (sum ≡ total (now weights)) × (sizeRefusal pot sum ≡ 0) ⌝ }
+    requires { ⌜ (length (now weights) ≤ mostWeights) × (length (now weights) ≤ length (now out)) ⌝ }
+    ensures { λ r. ⌜ now (out .exit) ≡ put (length (now (weights .entry))) (share pot (now (weights .entry))) (now (out .entry)) ⌝ }
+{
+    let whole = sum + (sum == 0) as u64;
+    cents::deal(pot, weights, whole, out);
 }
 
 // Divides a pot by weights and writes the shares to the first words of `out`. Refuses with COUNT (more than 64 weights), ROOM
@@ -48,6 +61,6 @@ pub fn divide(pot: u64, weights: &[u64], out: &mut [u64]) -> Division
     if number != ACCEPTED {
         return answered(number);
     }
-    cents::share_out(pot, weights, sum, out);
+    share_out(pot, weights, sum, out);
     answered(ACCEPTED)
 }

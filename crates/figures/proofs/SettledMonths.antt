@@ -2,7 +2,7 @@
 -- Assumes nothing.
 use mathlib.Core.Path.{_≡_, refl}
 use mathlib.Core.List.{[], _∷_}
-use Rattle.lists.specs.Sums.{sumTo, sumWhere, largestFirst, any}
+use Rattle.lists.specs.Sums.{sumTo, sumWhere, largestFirst, every, any}
 use Rattle.lists.specs.Entries.{listed, put}
 use Rattle.answer.specs.Turns.{_then_, accepted, refuse, first, turns}
 use Rattle.division.specs.Limits.{sizeRefusal}
@@ -12,11 +12,12 @@ use Rattle.service.specs.Service as service
 use Rattle.service.specs.Turn as turn
 use Rattle.month.specs.Months.{isMonth, through, twelfth}
 use Rattle.month.specs.Quantities as month
-use Rattle.tables.specs.Limits.{blackStart, reactive}
+use Rattle.month.specs.Limits.{blackStart, reactive}
 use Rattle.rows.specs.Rows as rows
+use Rattle.tables.specs.Shape.{tablesOf}
 use Rattle.tables.specs.Counts as counts
 use Rattle.judgement.specs.Judgement as judgement
-use Rattle.pool.specs.Input.{Input, inputOf}
+use Rattle.pool.specs.Input.{Input, monthOf}
 use Rattle.pool.specs.Accounts.{contributions, reserved, curtailed, accountUse}
 use Rattle.pool.specs.Network as network
 use Rattle.pool.specs.Services as services
@@ -24,24 +25,26 @@ use Rattle.settlement.specs.Settled.{networkInTurn, divisionsInTurn, answerOf, 
 
 abbrev caseS : Input
 caseS =
-    inputOf 4 30 0
+    monthOf (record { month = 4; days = 30; nonzone = 0 })
+    (tablesOf
     (1 ∷ 365000 ∷ [])
     (1 ∷ 1 ∷ 200 ∷ 2 ∷ 1 ∷ 100 ∷ [])
     (1 ∷ 2 ∷ 1 ∷ 1 ∷ 12000 ∷ 0 ∷ [])
     (1 ∷ 70 ∷ 1 ∷ 2 ∷ 71 ∷ 0 ∷ [])
     (1 ∷ 1 ∷ 10 ∷ 1 ∷ 2 ∷ 10 ∷ [])
-    (2 ∷ 480 ∷ 0 ∷ [])
+    (2 ∷ 480 ∷ 0 ∷ []))
 
 -- uses of 300 and 100 in zone 1, 200 in zone 2, 100 at the border; for both services pots of 1,000 and 500
 abbrev caseB1 : Input
 caseB1 =
-    inputOf 2 29 7
+    monthOf (record { month = 2; days = 29; nonzone = 7 })
+    (tablesOf
     (1 ∷ 0 ∷ 2 ∷ 0 ∷ [])
     (1 ∷ 1 ∷ 0 ∷ [])
     (1 ∷ 1 ∷ 1 ∷ 1 ∷ 12000 ∷ 0 ∷ 2 ∷ 1 ∷ 2 ∷ 1 ∷ 4800 ∷ 100 ∷ 3 ∷ 1 ∷ 1 ∷ 2 ∷ 12000 ∷ 0 ∷ 4 ∷ 1 ∷ 2 ∷ 2 ∷ 6000 ∷ 0 ∷ [])
     (1 ∷ 70 ∷ 1 ∷ 2 ∷ 71 ∷ 1 ∷ 3 ∷ 72 ∷ 2 ∷ 4 ∷ 73 ∷ 0 ∷ [])
     []
-    (1 ∷ 300 ∷ 0 ∷ 2 ∷ 150 ∷ 50 ∷ 3 ∷ 200 ∷ 0 ∷ 4 ∷ 100 ∷ 0 ∷ [])
+    (1 ∷ 300 ∷ 0 ∷ 2 ∷ 150 ∷ 50 ∷ 3 ∷ 200 ∷ 0 ∷ 4 ∷ 100 ∷ 0 ∷ []))
 
 record Figures : Type 0 where
   S-charges : chargeWords caseS (9 ∷ 9 ∷ 9 ∷ 9 ∷ 9 ∷ 9 ∷ 9 ∷ []) ≡ (2000 ∷ 500 ∷ 0 ∷ 0 ∷ 500 ∷ 0 ∷ 9 ∷ [])
@@ -55,7 +58,7 @@ record Figures : Type 0 where
   B1-nonzone : listed 2 (service.nonzoneSide (services.serviceIn caseB1 reactive)) ≡ (143 ∷ 71 ∷ [])
 
 figures : Figures
-unfolding sumTo sumWhere largestFirst listed put refuse _then_ first sizeRefusal quotient remainder leftover comesBefore getsCent share shares turns groups.among groups.weightsIn groups.amount groups.amounts groups.refusal groups.groupsInTurn service.zoneUse service.nonzoneUse service.uses service.zoneSide service.nonzoneSide service.zoneShare service.nonzonePot service.nonzoneParts service.nonzoneShare service.serviceCharge turn.splitRefusal turn.shareRefusal turn.nonzoneRefusal turn.zoneTurn turn.serviceInTurn isMonth through twelfth month.useOf month.nearest month.networkCharge any rows.rowNumber rows.notAbove rows.unknown rows.taken rows.zoneOutside rows.rowIn rows.ownerOutside rows.unitOutside rows.accountOutside rows.loadOutside rows.reservationOutside counts.inTurn counts.counted counts.roomFor judgement.headJudged judgement.rowsJudged judgement.judged contributions reserved curtailed accountUse network.rateOf network.rate network.networkCharge network.chargesIn network.requirements network.networkCredit network.nonzoneCredit network.nonzoneRefusal services.unitCredit services.creditIn services.serviceCredit services.zonePot services.zonePart services.nonzonePart services.serviceCharge networkInTurn divisionsInTurn answerOf chargeOf creditOf chargeWords creditWords
+unfolding sumTo sumWhere largestFirst every listed put refuse _then_ first sizeRefusal quotient remainder leftover comesBefore getsCent share shares turns groups.among groups.weightsIn groups.amount groups.amountInAll groups.groupRefusal groups.groupsInTurn service.zoneUse service.nonzoneUse service.bothUses service.zoneSide service.nonzoneSide service.zoneShare service.nonzonePot service.nonzoneParts service.nonzoneShare service.accountCharge turn.splitRefusal turn.shareRefusal turn.nonzoneRefusal turn.zoneTurn turn.serviceInTurn isMonth through twelfth month.useOf month.nearest month.chargeAtRate any rows.rowNumber rows.notAbove rows.above rows.unknown rows.taken rows.zoneOutside rows.rowOf rows.ownerOutside rows.unitOutside rows.accountOutside rows.loadOutside rows.reservationOutside counts.tablesInTurn counts.counted counts.countsInTurn counts.roomFor judgement.headLooked judgement.rowsJudged judgement.judged contributions reserved curtailed accountUse network.rateOf network.rate network.networkCharge network.chargesIn network.requirements network.networkCredit network.nonzoneCredit network.networkNonzoneRefusal services.unitCredit services.creditIn services.serviceCredit services.zonePot services.zonePart services.nonzonePart services.serviceCharge networkInTurn divisionsInTurn answerOf chargeOf creditOf chargeWords creditWords
 figures =
     record {
       S-charges = refl;

@@ -7,13 +7,13 @@ use Rattle.closeness.specs.Closeness.{level}
 use Rattle.division.specs.Limits.{sizeRefusal, divideRefusal}
 use Rattle.division.specs.Shares.{quotient, remainder, leftover, comesBefore, getsCent, share, shares, memory}
 use Rattle.verdict.specs.Check.{checkRefusal, passes, verdict}
-use Rattle.month.specs.Quantities.{nearest, networkCharge}
+use Rattle.month.specs.Quantities.{nearest, chargeAtRate}
 use Rattle.month.specs.Months.{through, twelfth}
 use Rattle.figures.specs.Starred.{Starred}
 use Rattle.figures.proofs.Statements.{case-s}
 
 pub starred : Starred
-unfolding sumTo every largestFirst listed level sizeRefusal divideRefusal checkRefusal quotient remainder leftover comesBefore getsCent share shares memory passes verdict nearest networkCharge through twelfth
+unfolding sumTo every largestFirst listed level sizeRefusal divideRefusal checkRefusal quotient remainder leftover comesBefore getsCent share shares memory passes verdict nearest chargeAtRate through twelfth
 starred =
     record {
       D1 = refl;

@@ -3,7 +3,7 @@
 use mathlib.Core.Path.{_≡_, refl}
 use mathlib.Core.List.{List}
 use Prim.Native.Nat.{ℕ}
-use Rattle.lists.specs.Sums.{sumTo, sumWhere, largestFirst, any}
+use Rattle.lists.specs.Sums.{sumTo, sumWhere, largestFirst, every, any}
 use Rattle.lists.specs.Entries.{listed, put}
 use Rattle.answer.specs.Turns.{_then_, refuse, turns, first}
 use Rattle.division.specs.Limits.{sizeRefusal}
@@ -17,15 +17,16 @@ use Rattle.rows.specs.Rows as rows
 use Rattle.tables.specs.Counts as counts
 use Rattle.judgement.specs.Judgement as judgement
 use Rattle.text.specs.Bytes.{bytes}
-use Rattle.text.specs.Numbers.{isDigit, digitsOn, number, digits, decimal}
+use Rattle.text.specs.Numbers.{isDigit, digitsOn, firstNumber, digits, decimal}
 use Rattle.text.specs.Lines.{past, field, fields, line, fieldsText, lineText}
-use Rattle.monthfile.specs.Reading as reading
-use Rattle.monthfile.specs.Writing.{rowsText}
+use Rattle.fileform.specs.Reading as reading
+use Rattle.fileform.specs.Writing.{rowsText}
 use Rattle.pool.specs.Accounts.{contributions, reserved, curtailed, accountUse}
 use Rattle.pool.specs.Network as network
 use Rattle.pool.specs.Services as services
 use Rattle.settlement.specs.Settled.{networkInTurn, divisionsInTurn, answerOf, chargeOf, creditOf, chargeWords, creditWords}
-use Rattle.statement_text.specs.Statement.{rowsWith, linesText, allCharges, allCredits, statementLines, settledAnswer, refuseLine, settledText, statementOf}
+use Rattle.statement_lines.specs.Lines.{rowsWith, linesText, refuseLine}
+use Rattle.statement_text.specs.Statement.{allCharges, allCredits, statementLines, settledAnswer, settledText, statementOf}
 
 abbrev pub caseFile : List ℕ
 caseFile = bytes "month=4\ndays=30\nnonzone=0\nzone=1,365000\nowner=1,1,200\nowner=2,1,100\nunit=1,2,1,1,12000,0\naccount=1,70,1\naccount=2,71,0\nload=1,1,10\nload=1,2,10\nptp=2,480,0\nend=9\n"
@@ -34,5 +35,5 @@ abbrev pub caseStatement : List ℕ
 caseStatement = bytes "charge=1,2000,500,0\ncharge=2,0,500,0\ncredit=1,1333,0,0,0\ncredit=2,667,0,1000,0\ntotal=3000,3000\n"
 
 pub case-s : statementOf caseFile ≡ caseStatement
-unfolding sumTo sumWhere largestFirst listed put refuse _then_ first sizeRefusal quotient remainder leftover comesBefore getsCent share shares turns groups.among groups.weightsIn groups.amount groups.amounts groups.refusal groups.groupsInTurn service.zoneUse service.nonzoneUse service.uses service.zoneSide service.nonzoneSide service.zoneShare service.nonzonePot service.nonzoneParts service.nonzoneShare service.serviceCharge turn.splitRefusal turn.shareRefusal turn.nonzoneRefusal turn.zoneTurn turn.serviceInTurn isMonth through twelfth month.useOf month.nearest month.networkCharge any rows.rowNumber rows.notAbove rows.unknown rows.taken rows.zoneOutside rows.rowIn rows.ownerOutside rows.unitOutside rows.accountOutside rows.loadOutside rows.reservationOutside counts.inTurn counts.counted counts.roomFor judgement.headJudged judgement.rowsJudged judgement.judged contributions reserved curtailed accountUse network.rateOf network.rate network.networkCharge network.chargesIn network.requirements network.networkCredit network.nonzoneCredit network.nonzoneRefusal services.unitCredit services.creditIn services.serviceCredit services.zonePot services.zonePart services.nonzonePart services.serviceCharge networkInTurn divisionsInTurn answerOf chargeOf creditOf chargeWords creditWords isDigit digitsOn number past field fields line digits decimal fieldsText lineText reading.rows reading.heads reading.tables reading.rowsIn reading.ending reading.reading rowsText rowsWith linesText allCharges allCredits statementLines settledAnswer refuseLine settledText statementOf
+unfolding sumTo sumWhere largestFirst every listed put refuse _then_ first sizeRefusal quotient remainder leftover comesBefore getsCent share shares turns groups.among groups.weightsIn groups.amount groups.amountInAll groups.groupRefusal groups.groupsInTurn service.zoneUse service.nonzoneUse service.bothUses service.zoneSide service.nonzoneSide service.zoneShare service.nonzonePot service.nonzoneParts service.nonzoneShare service.accountCharge turn.splitRefusal turn.shareRefusal turn.nonzoneRefusal turn.zoneTurn turn.serviceInTurn isMonth through twelfth month.useOf month.nearest month.chargeAtRate any rows.rowNumber rows.notAbove rows.above rows.unknown rows.taken rows.zoneOutside rows.rowOf rows.ownerOutside rows.unitOutside rows.accountOutside rows.loadOutside rows.reservationOutside counts.tablesInTurn counts.counted counts.countsInTurn counts.roomFor judgement.headLooked judgement.rowsJudged judgement.judged contributions reserved curtailed accountUse network.rateOf network.rate network.networkCharge network.chargesIn network.requirements network.networkCredit network.nonzoneCredit network.networkNonzoneRefusal services.unitCredit services.creditIn services.serviceCredit services.zonePot services.zonePart services.nonzonePart services.serviceCharge networkInTurn divisionsInTurn answerOf chargeOf creditOf chargeWords creditWords isDigit digitsOn firstNumber past field fields line digits decimal fieldsText lineText reading.rowLines reading.headLines reading.tableLines reading.rowsInAll reading.ending reading.reading rowsText rowsWith linesText allCharges allCredits statementLines settledAnswer refuseLine settledText statementOf
 case-s = refl

@@ -6,7 +6,7 @@ use Rattle.answer.specs.Numbers.{BASE}
 use Rattle.division.specs.Limits.{divideRefusal}
 use Rattle.division.specs.Shares.{memory}
 use Rattle.verdict.specs.Check.{verdict, yes, no, meaning}
-use Rattle.month.specs.Quantities.{networkCharge}
+use Rattle.month.specs.Quantities.{chargeAtRate}
 use Rattle.month.specs.Months.{twelfth}
 use Rattle.text.specs.Bytes.{bytes}
 use Rattle.statement_text.specs.Statement.{statementOf}
@@ -30,7 +30,7 @@ pub record Starred : Type 0 where
   pub C1-other : meaning (verdict 2 (1 ∷ 1 ∷ 1 ∷ 1 ∷ []) (2 ∷ 0 ∷ 0 ∷ 0 ∷ [])) .says ≡ no
   pub C2 : meaning (verdict 100 (1 ∷ 2 ∷ 4 ∷ []) (15 ∷ 28 ∷ 57 ∷ [])) .says ≡ no
   -- 3,000 tenths in the month at 1,471,400
-  pub N1 : networkCharge 3_000 1_471_400 ≡ 1_209_370
+  pub N1 : chargeAtRate 3_000 1_471_400 ≡ 1_209_370
   -- annual 100: months 1, 2, 3
   pub M1 : twelfth 1 100 ∷ twelfth 2 100 ∷ twelfth 3 100 ∷ [] ≡ 8 ∷ 8 ∷ 9 ∷ []
   -- case S whole, bytes in and bytes out

@@ -6,8 +6,8 @@ use month::Made;
 use month::Month;
 use month::TenthMwDays;
 ghost use Prim.Native.Nat.{_≤_};
-ghost use Rattle.month.specs.Limits.{mostAnnual, mostContributions, mostRate};
-ghost use Rattle.month.specs.Months.{months};
+ghost use Rattle.month.specs.Limits.{mostAnnual, mostRate};
+ghost use Rattle.month.specs.Quantities.{mostContributions};
 
 fn charge(name: &[u8], contributions: u64, rate: u64)
     requires { ⌜ (contributions ≤ mostContributions) × (rate ≤ mostRate) ⌝ }
@@ -15,7 +15,10 @@ fn charge(name: &[u8], contributions: u64, rate: u64)
     text(name);
     number(b": ", contributions);
     number(b" tenths at ", rate);
-    number(b": ", month::charge_of(TenthMwDays(contributions), rate));
+    number(
+        b": ",
+        month::charge_at_rate(TenthMwDays(contributions), rate),
+    );
     text(b"\n");
 }
 
@@ -26,16 +29,15 @@ fn charges() {
 }
 
 fn twelfth(name: &[u8], annual: u64, month: u64, days: u64)
-    requires { ⌜ (annual ≤ mostAnnual) × (1 ≤ month) × (month ≤ months) ⌝ }
+    requires { ⌜ annual ≤ mostAnnual ⌝ }
 {
     text(name);
     number(b": annual ", annual);
     number(b" in month ", month);
-    let made = Month {
-        number: month,
-        days,
-    };
-    number(b": ", made.twelfth(annual));
+    match Month::new(month, days) {
+        Made::Good(made) => number(b": ", made.twelfth(annual)),
+        Made::Bad => answer_name(answer::MONTH),
+    }
     text(b"\n");
 }
 

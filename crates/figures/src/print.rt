@@ -43,13 +43,6 @@ pub(crate) fn list(bytes: &[u8], numbers: &[u64]) {
     after_first(numbers);
 }
 
-// The start of a line on a division or a check: its name, the pot and the weights.
-pub(crate) fn pot_by_weights(name: &[u8], pot: u64, weights: &[u64]) {
-    text(name);
-    number(b": ", pot);
-    list(b" by ", weights);
-}
-
 // The name in the paper of each answer that a division, a check or a month can give.
 pub(crate) fn answer_name(answer: u64) {
     if answer == ACCEPTED {

@@ -18,8 +18,7 @@ use Rattle.division.specs.Shares.{shares, Divided}
 use Rattle.division.specs.declared.Division.{Division}
 use Rattle.division.proofs.Laws.{length-shares, share-fits, by-size, memory-accepted}
 use Rattle.groups.specs.Groups.{among}
-use Rattle.groups.specs.Columns.{Addable, Added}
-use Rattle.groups.specs.Steps.{Kept}
+use Rattle.groups.specs.Columns.{Addable, Added, MembersKept}
 
 module _ {pot : ℕ} {weights lent after : List ℕ} {d : Division} (made : Divided pot weights lent after d)
     (few : length weights ≤ mostWeights) (long : length weights ≤ length lent)
@@ -63,7 +62,7 @@ module _ {pot : ℕ} {weights lent after : List ℕ} {d : Division} (made : Divi
           }
 
 -- a group's weights, written over words that are lent and lent on by themselves
-module _ {weights groups : List ℕ} {group : ℕ} {lent after : List ℕ} (kept : Kept weights groups group lent after)
+module _ {weights groups : List ℕ} {group : ℕ} {lent after : List ℕ} (kept : MembersKept weights groups group lent after)
     (long : length weights ≤ length lent)
   where
     pub kept-front : take (length weights) after ≡ among (length weights) (at groups) (at weights) group

@@ -11,17 +11,17 @@ use Rattle.lists.specs.Entries.{listed, put}
 use Rattle.lists.proofs.Sums.{sum-eq}
 use Rattle.lists.proofs.Entries.{length-listed, at-listed, listed-eq, put-eq}
 use Rattle.answer.specs.declared.Answer.{Answer}
-use Rattle.answer.specs.Numbers.{divisions}
+use Rattle.answer.specs.Numbers.{DIVISIONS}
 use Rattle.answer.specs.Turns.{refuse, turns}
 use Rattle.answer.proofs.Turns.{turns-eq}
 use Rattle.division.specs.Limits.{sizeRefusal}
 use Rattle.division.specs.Shares.{shares}
-use Rattle.groups.specs.Groups.{among, Pots, weightsIn, amount, amounts, refusal, groupsInTurn, potsOf, Grouped}
-use Rattle.groups.specs.Columns.{Written}
+use Rattle.groups.specs.Groups.{among, Pots, weightsIn, amount, amountInAll, groupRefusal, groupsInTurn, potsOf, Grouped}
+use Rattle.groups.specs.Columns.{ColumnWritten}
 
 -- what is written, where the values and the answer are the same
-pub same-written : {n : ℕ} {f : ℕ → ℕ} {answer : Answer} {before after : List ℕ} {r : Answer} → Written n f answer before after r
-    → {m : ℕ} {g : ℕ → ℕ} {other : Answer} → n ≡ m → ((i : ℕ) → i < n → f i ≡ g i) → answer ≡ other → Written m g other before after r
+pub same-written : {n : ℕ} {f : ℕ → ℕ} {answer : Answer} {before after : List ℕ} {r : Answer} → ColumnWritten n f answer before after r
+    → {m : ℕ} {g : ℕ → ℕ} {other : Answer} → n ≡ m → ((i : ℕ) → i < n → f i ≡ g i) → answer ≡ other → ColumnWritten m g other before after r
 same-written {n} {f} {answer} {before} {after} {r} w {m} {g} {other} e v a =
     record {
       answers = w .answers ∙ a;
@@ -48,22 +48,22 @@ module _ {p q : Pots} (s : Same p q) where
   unfolding amount
   same-amount z i b = ap₂ (λ pot l. at (shares pot l) i) (s .same-pot z b) (same-weights z b)
 
-  pub same-amounts : (i : ℕ) → amounts p i ≡ amounts q i
-  unfolding amounts
+  pub same-amounts : (i : ℕ) → amountInAll p i ≡ amountInAll q i
+  unfolding amountInAll
   same-amounts i =
       sum-eq (p .groups) (λ z. amount p z i) (λ z. amount q z i) (λ z b. same-amount z i b)
       ∙ ap (λ n. sumTo n (λ z. amount q z i)) (s .same-groups)
 
-  pub same-refusal : (z : ℕ) → z < p .groups → refusal p z ≡ refusal q z
-  unfolding refusal
+  pub same-refusal : (z : ℕ) → z < p .groups → groupRefusal p z ≡ groupRefusal q z
+  unfolding groupRefusal
   same-refusal z b = ap₂ (λ pot l. sizeRefusal pot (total l)) (s .same-pot z b) (same-weights z b)
 
   pub same-turn : (place : ℕ) → groupsInTurn p place ≡ groupsInTurn q place
   unfolding groupsInTurn
   same-turn place =
-      turns-eq _ (λ z. refuse (refusal q z) divisions (place + z)) (p .groups)
-      (λ z b. ap (λ n. refuse n divisions (place + z)) (same-refusal z b))
-      ∙ ap (turns (λ z. refuse (refusal q z) divisions (place + z))) (s .same-groups)
+      turns-eq _ (λ z. refuse (groupRefusal q z) DIVISIONS (place + z)) (p .groups)
+      (λ z b. ap (λ n. refuse n DIVISIONS (place + z)) (same-refusal z b))
+      ∙ ap (turns (λ z. refuse (groupRefusal q z) DIVISIONS (place + z))) (s .same-groups)
 
   pub same-grouped : (place : ℕ) (before after : List ℕ) (r : Answer) → Grouped p place before after r → Grouped q place before after r
   same-grouped place before after r g =

@@ -14,8 +14,8 @@ use Rattle.lists.specs.Sums.{at}
 use Rattle.lists.specs.Entries.{put}
 use Rattle.lists.proofs.Entries.{length-put, put-none, put-suc, put-ahead, put-eq}
 use Rattle.answer.specs.declared.Answer.{Answer}
-use Rattle.groups.specs.Columns.{Written}
-use Rattle.groups.specs.Steps.{Made}
+use Rattle.groups.specs.Columns.{ColumnWritten}
+use Rattle.groups.specs.Steps.{ColumnMade}
 
 -- the first i of n values are stored in a list
 pub record Stored (n : ℕ) (f : ℕ → ℕ) (before : List ℕ) (i : ℕ) (column : List ℕ) : Type 0 where
@@ -40,15 +40,15 @@ module _ {n : ℕ} {f : ℕ → ℕ} {before : List ℕ} {i : ℕ} {column : Lis
   stored-end h = s .so-far ∙ ap (λ k. put k f before) (le-antisymm (s .passed) h)
 
 -- from values made in words of a function's own to the lent words
-module _ {n : ℕ} {f : ℕ → ℕ} {answer : Answer} {sums : List ℕ} {r : Answer} (m : Made n f answer sums r) where
-  pub written-none : r .number ≢ 0 → (before : List ℕ) → Written n f answer before before r
+module _ {n : ℕ} {f : ℕ → ℕ} {answer : Answer} {sums : List ℕ} {r : Answer} (m : ColumnMade n f answer sums r) where
+  pub written-none : r .number ≢ 0 → (before : List ℕ) → ColumnWritten n f answer before before r
   written-none bad before = record { answers = m .answers; lent = rw (ne-eqb (r .number) 0 bad) }
 
   module _ (fine : r .number ≡ 0) where
     pub made-long : length (take n sums) ≡ n
     made-long = length-take-le n sums (m .long fine)
 
-    pub written-all : (before after : List ℕ) → after ≡ put (length (take n sums)) (at (take n sums)) before → Written n f answer before after r
+    pub written-all : (before after : List ℕ) → after ≡ put (length (take n sums)) (at (take n sums)) before → ColumnWritten n f answer before after r
     written-all before after e =
         record {
           answers = m .answers;

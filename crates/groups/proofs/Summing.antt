@@ -15,22 +15,22 @@ use Rattle.lists.specs.Entries.{put}
 use Rattle.lists.proofs.Sums.{last-or-below, sum-none, sum-suc, sum-le, sum-const}
 use Rattle.lists.proofs.Entries.{length-listed, length-put, at-put}
 use Rattle.answer.specs.declared.Answer.{Answer}
-use Rattle.answer.specs.Numbers.{divisions}
+use Rattle.answer.specs.Numbers.{DIVISIONS}
 use Rattle.answer.specs.Turns.{accepted, refuse}
 use Rattle.answer.proofs.Turns.{refuse-none, refuse-number, turns-none, turns-stop}
 use Rattle.division.specs.Limits.{mostWeights, potLimit}
 use Rattle.division.proofs.Laws.{share-fits}
-use Rattle.groups.specs.Groups.{Pots, among, weightsIn, amount, amounts, refusal, groupsInTurn}
+use Rattle.groups.specs.Groups.{Pots, among, weightsIn, amount, amountInAll, groupRefusal, groupsInTurn, mostGroups}
 use Rattle.groups.specs.Columns.{Addable, Added}
-use Rattle.groups.specs.Steps.{mostGroups, Summed, GoneThrough}
+use Rattle.groups.specs.Steps.{Summed, GoneThrough}
 
 pub length-weights : (p : Pots) (z : ℕ) → length (weightsIn p z) ≡ p .members
 unfolding weightsIn among
 length-weights p z = length-listed (p .members) _
 
 -- no amount of a group that is not refused is above the limit of a pot
-pub amount-fits : (p : Pots) (z : ℕ) → refusal p z ≡ 0 → (i : ℕ) → amount p z i ≤ potLimit
-unfolding refusal amount
+pub amount-fits : (p : Pots) (z : ℕ) → groupRefusal p z ≡ 0 → (i : ℕ) → amount p z i ≤ potLimit
+unfolding groupRefusal amount
 amount-fits p z e i = share-fits (p .pot z) (weightsIn p z) e i
 
 -- a column of zeros
@@ -61,7 +61,7 @@ module _ {p : Pots} {z : ℕ} {column : List ℕ} (s : Summed p z column) where
   -- one group more, whose shares are added
   pub summed-more : (after : List ℕ) (number : ℕ) → Added (p .pot z) (weightsIn p z) column after number → number ≡ 0
       → Summed p (z + 1) after
-  unfolding refusal amount
+  unfolding groupRefusal amount
   summed-more after number a e =
       let stored : after ≡ put (p .members) (λ i. at column i + amount p z i) column =
       a .lent ∙ (rw (eq-eqb number 0 e)) ∙ ap (λ n. put n (λ i. at column i + amount p z i) column) (length-weights p z) in
@@ -70,7 +70,7 @@ module _ {p : Pots} {z : ℕ} {column : List ℕ} (s : Summed p z column) where
         long = le-trans (s .long) (le-of-eq (sym (ap length stored ∙ length-put (p .members) _ column)));
         fine = λ y b.
             ⊎-elim
-            (λ (q : y ≡ z). ap (refusal p) q ∙ sym (a .number) ∙ e)
+            (λ (q : y ≡ z). ap (groupRefusal p) q ∙ sym (a .number) ∙ e)
             (λ (l : y < z). s .fine y l)
             (last-or-below z y (rw add-one at b));
         sums = λ i b.
@@ -80,38 +80,38 @@ module _ {p : Pots} {z : ℕ} {column : List ℕ} (s : Summed p z column) where
             ∙ sym (sum-suc z (λ y. amount p y i));
       }
 
-  none-before : (place : ℕ) → (y : ℕ) → y < z → refuse (refusal p y) divisions (place + y) ≡ accepted
-  none-before place y b = refuse-none (refusal p y) divisions (place + y) (s .fine y b)
+  none-before : (place : ℕ) → (y : ℕ) → y < z → refuse (groupRefusal p y) DIVISIONS (place + y) ≡ accepted
+  none-before place y b = refuse-none (groupRefusal p y) DIVISIONS (place + y) (s .fine y b)
 
   -- group z is the first that is refused
   pub summed-stop : (place : ℕ) → z < p .groups → (after : List ℕ) (number : ℕ) (r : Answer)
-      → Added (p .pot z) (weightsIn p z) column after number → number ≢ 0 → r ≡ refuse number divisions (place + z)
+      → Added (p .pot z) (weightsIn p z) column after number → number ≢ 0 → r ≡ refuse number DIVISIONS (place + z)
       → GoneThrough p place after r
-  unfolding groupsInTurn refusal
+  unfolding groupsInTurn groupRefusal
   summed-stop place b after number r a bad e =
       let refused : r .number ≢ 0 =
-      λ o. bad (sym (refuse-number number divisions (place + z)) ∙ ap (λ (q : Answer). q .number) (sym e) ∙ o) in
+      λ o. bad (sym (refuse-number number DIVISIONS (place + z)) ∙ ap (λ (q : Answer). q .number) (sym e) ∙ o) in
       record {
         answers =
             e
-            ∙ ap (λ n. refuse n divisions (place + z)) (a .number)
+            ∙ ap (λ n. refuse n DIVISIONS (place + z)) (a .number)
             ∙ sym
-            (turns-stop (λ y. refuse (refusal p y) divisions (place + y)) (p .groups) z b (none-before place)
-            (λ o. bad (a .number ∙ sym (refuse-number (refusal p z) divisions (place + z)) ∙ o)));
+            (turns-stop (λ y. refuse (groupRefusal p y) DIVISIONS (place + y)) (p .groups) z b (none-before place)
+            (λ o. bad (a .number ∙ sym (refuse-number (groupRefusal p z) DIVISIONS (place + z)) ∙ o)));
         long = λ o. absurd (refused o);
         values = λ o. absurd (refused o);
       }
 
   -- all groups are divided
-  pub summed-all : (place : ℕ) → z ≡ p .groups → (r : Answer) → r ≡ refuse 0 divisions place
+  pub summed-all : (place : ℕ) → z ≡ p .groups → (r : Answer) → r ≡ refuse 0 DIVISIONS place
       → GoneThrough p place column r
-  unfolding groupsInTurn amounts
+  unfolding groupsInTurn amountInAll
   summed-all place e r o =
       record {
         answers =
             o
-            ∙ refuse-none 0 divisions place refl
-            ∙ sym (turns-none (λ y. refuse (refusal p y) divisions (place + y)) (p .groups) (λ y b. none-before place y (rw e b)));
+            ∙ refuse-none 0 DIVISIONS place refl
+            ∙ sym (turns-none (λ y. refuse (groupRefusal p y) DIVISIONS (place + y)) (p .groups) (λ y b. none-before place y (rw e b)));
         long = λ n. s .long;
         values = λ n i b. s .sums i b ∙ ap (λ k. sumTo k (λ y. amount p y i)) e;
       }

@@ -10,9 +10,8 @@ use Rattle.lists.specs.Sums.{at}
 use Rattle.lists.specs.Entries.{put}
 use Rattle.answer.specs.declared.Answer.{Answer}
 use Rattle.division.specs.Shares.{shares}
-use Rattle.groups.specs.Groups.{Pots, amounts, groupsInTurn, Grouped}
-use Rattle.groups.specs.Columns.{Added, Written}
-use Rattle.groups.specs.Steps.{Kept}
+use Rattle.groups.specs.Groups.{Pots, amountInAll, groupsInTurn, Grouped}
+use Rattle.groups.specs.Columns.{Added, ColumnWritten, MembersKept}
 
 -- `divide_all` and `divide_among`
 pub added-unique : (pot : ℕ) (weights before after after′ : List ℕ) (r r′ : ℕ)
@@ -26,17 +25,17 @@ added-unique pot weights before after after′ r r′ a a′ =
     )
 
 -- `each_group`, and every call that writes so
-pub written-unique : (n : ℕ) (f : ℕ → ℕ) (answer : Answer) (before after after′ : List ℕ) (r r′ : Answer)
-    → Written n f answer before after r → Written n f answer before after′ r′ → (r ≡ r′) × (after ≡ after′)
-written-unique n f answer before after after′ r r′ w w′ =
+pub column-written-unique : (n : ℕ) (f : ℕ → ℕ) (answer : Answer) (before after after′ : List ℕ) (r r′ : Answer)
+    → ColumnWritten n f answer before after r → ColumnWritten n f answer before after′ r′ → (r ≡ r′) × (after ≡ after′)
+column-written-unique n f answer before after after′ r r′ w w′ =
     let same : r ≡ r′ = w .answers ∙ sym (w′ .answers) in
     (same, w .lent ∙ ap (λ (a : Answer). cond (eqb (a .number) 0) (put n f before) before) same ∙ sym (w′ .lent))
 
 pub each-group-unique : (p : Pots) (place : ℕ) (before after after′ : List ℕ) (r r′ : Answer)
     → Grouped p place before after r → Grouped p place before after′ r′ → (r ≡ r′) × (after ≡ after′)
-each-group-unique p place = written-unique (p .members) (amounts p) (groupsInTurn p place)
+each-group-unique p place = column-written-unique (p .members) (amountInAll p) (groupsInTurn p place)
 
 -- `columns::keep`; `columns::add` and `columns::store` say what the column is equal to
 pub keep-unique : (weights groups : List ℕ) (group : ℕ) (before after after′ : List ℕ)
-    → Kept weights groups group before after → Kept weights groups group before after′ → after ≡ after′
+    → MembersKept weights groups group before after → MembersKept weights groups group before after′ → after ≡ after′
 keep-unique weights groups group before after after′ k k′ = k .lent ∙ sym (k′ .lent)

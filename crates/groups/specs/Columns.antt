@@ -6,7 +6,7 @@ use mathlib.Core.Bool.{cond}
 use mathlib.Core.List.{List}
 use lib.Dec.{eqb}
 use lib.ListN.{length}
-use Rattle.lists.specs.Sums.{at, total}
+use Rattle.lists.specs.Sums.{at, total, when}
 use Rattle.lists.specs.Entries.{put}
 use Rattle.answer.specs.declared.Answer.{Answer}
 use Rattle.division.specs.Limits.{mostWeights, potLimit, sizeRefusal}
@@ -25,6 +25,10 @@ pub record Added (pot : ℕ) (weights before after : List ℕ) (r : ℕ) : Type 
 
 -- What a call that answers `answer` leaves in the lent words: "A refusal writes to no lent memory", and acceptance writes
 -- f 0, f 1, .. f (n − 1) to the first of them.
-pub record Written (n : ℕ) (f : ℕ → ℕ) (answer : Answer) (before after : List ℕ) (r : Answer) : Type 0 where
+pub record ColumnWritten (n : ℕ) (f : ℕ → ℕ) (answer : Answer) (before after : List ℕ) (r : Answer) : Type 0 where
   pub answers : r ≡ answer
   pub lent : after ≡ cond (eqb (r .number) 0) (put n f before) before
+
+-- What `keep` leaves in the column: the weights of a group's members, and 0 for all others, in the first words.
+pub record MembersKept (weights groups : List ℕ) (group : ℕ) (before after : List ℕ) : Type 0 where
+  pub lent : after ≡ put (length weights) (λ i. when (eqb (at groups i) group) (at weights i)) before

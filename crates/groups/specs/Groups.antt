@@ -1,6 +1,7 @@
 -- Pots that are divided each among the members of one group: a zone's pot among its owners, or among its accounts.
 -- Assumes nothing.
-use Prim.Native.Nat.{ℕ, _+_}
+use mathlib.Core.Path.{_≡_}
+use Prim.Native.Nat.{ℕ, _+_, _≤_}
 use mathlib.Core.Bool.{Bool}
 use mathlib.Core.List.{List}
 use lib.Dec.{eqb}
@@ -8,11 +9,11 @@ use lib.ListN.{length}
 use Rattle.lists.specs.Sums.{sumTo, at, total, when}
 use Rattle.lists.specs.Entries.{listed, kept}
 use Rattle.answer.specs.declared.Answer.{Answer}
-use Rattle.answer.specs.Numbers.{divisions}
+use Rattle.answer.specs.Numbers.{DIVISIONS}
 use Rattle.answer.specs.Turns.{refuse, turns}
-use Rattle.division.specs.Limits.{sizeRefusal}
+use Rattle.division.specs.Limits.{mostWeights, sizeRefusal}
 use Rattle.division.specs.Shares.{shares}
-use Rattle.groups.specs.Columns.{Written}
+use Rattle.groups.specs.Columns.{ColumnWritten}
 
 -- "divided among its owners by requirement", "among that zone's accounts by use": the weights of a group's members, and 0 for
 -- all others, of so many with a group and a weight each
@@ -46,16 +47,16 @@ unfoldable pub amount : Pots → ℕ → ℕ → ℕ
 amount p z i = at (shares (p .pot z) (weightsIn p z)) i
 
 -- what member i has in all
-unfoldable pub amounts : Pots → ℕ → ℕ
-amounts p i = sumTo (p .groups) (λ z. amount p z i)
+unfoldable pub amountInAll : Pots → ℕ → ℕ
+amountInAll p i = sumTo (p .groups) (λ z. amount p z i)
 
 -- "its divisions in turn, each BIG, then BASE": the number of group z's, 0 where it is fine
-unfoldable pub refusal : Pots → ℕ → ℕ
-refusal p z = sizeRefusal (p .pot z) (total (weightsIn p z))
+unfoldable pub groupRefusal : Pots → ℕ → ℕ
+groupRefusal p z = sizeRefusal (p .pot z) (total (weightsIn p z))
 
 -- "For a division the table is 9 and the row its place": the groups' divisions stand one after the other from a place on
 unfoldable pub groupsInTurn : Pots → ℕ → Answer
-groupsInTurn p place = turns (λ z. refuse (refusal p z) divisions (place + z)) (p .groups)
+groupsInTurn p place = turns (λ z. refuse (groupRefusal p z) DIVISIONS (place + z)) (p .groups)
 
 -- the pots, the groups' numbers, the members' weights and the members' groups as plain lists
 abbrev pub potsOf : List ℕ → List ℕ → List ℕ → List ℕ → Pots
@@ -69,6 +70,17 @@ potsOf pots numbers weights groups =
       pot = at pots;
     }
 
+-- enough groups for the paper's 16 zones, and few enough that what a member has from all of them fits a word
+abbrev pub mostGroups : ℕ
+mostGroups = 64
+
+-- Lists that go together: a group for each weight, at most 64 of them; a pot for each group's number, not too many.
+pub record Together (pots numbers weights groups : List ℕ) : Type 0 where
+  pub few-members : length weights ≤ mostWeights
+  pub group-each : length groups ≡ length weights
+  pub few-groups : length numbers ≤ mostGroups
+  pub pot-each : length pots ≡ length numbers
+
 -- What `each_group` answers and writes: what each member has in all.
 abbrev pub Grouped : Pots → ℕ → List ℕ → List ℕ → Answer → Type 0
-Grouped p place before after r = Written (p .members) (amounts p) (groupsInTurn p place) before after r
+Grouped p place before after r = ColumnWritten (p .members) (amountInAll p) (groupsInTurn p place) before after r

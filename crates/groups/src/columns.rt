@@ -4,7 +4,7 @@ ghost use Prim.Native.Nat.{ℕ, _+_, _≤_, _<_, _^_};
 ghost use lib.ListN.{length};
 ghost use Rattle.lists.specs.Sums.{at};
 ghost use Rattle.lists.specs.Entries.{put};
-ghost use Rattle.groups.specs.Steps.{Kept};
+ghost use Rattle.groups.specs.Columns.{MembersKept};
 use lists::when_same;
 
 // Adds each amount to its word of the column.
@@ -35,7 +35,7 @@ pub fn store(amounts: &[u64], column: &mut [u64])
 // Writes the weights of a group's members, and 0 for all others, to the first words of the column.
 pub fn keep(weights: &[u64], groups: &[u64], group: u64, column: &mut [u64])
     requires { ⌜ (length (now weights) ≡ length (now groups)) × (length (now weights) ≤ length (now column)) ⌝ }
-    ensures { λ r. ⌜ Kept (now (weights .entry)) (now (groups .entry)) group (now (column .entry)) (now (column .exit)) ⌝ }
+    ensures { λ r. ⌜ MembersKept (now (weights .entry)) (now (groups .entry)) group (now (column .entry)) (now (column .exit)) ⌝ }
 {
     let mut i = 0;
     while i < weights.len() {

@@ -9,8 +9,8 @@ ghost use Prim.Native.Nat.{_+_, _≤_, _<_, _^_};
 ghost use lib.ListN.{length};
 ghost use Rattle.lists.specs.Sums.{at};
 ghost use Rattle.groups.specs.Columns.{Addable, Added};
-ghost use Rattle.groups.specs.Groups.{among, potsOf, Grouped};
-ghost use Rattle.groups.specs.Steps.{Together, Summed, GoneThrough};
+ghost use Rattle.groups.specs.Groups.{among, potsOf, Grouped, Together};
+ghost use Rattle.groups.specs.Steps.{Summed, GoneThrough};
 
 pub mod columns;
 

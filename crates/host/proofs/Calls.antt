@@ -3,16 +3,13 @@
 -- Assumes nothing.
 use mathlib.Core.Path.{_≡_, sym, ap, _∙_}
 use mathlib.Core.Logic.{_≢_}
-use mathlib.Core.Bool.{true, false, cond, not}
+use mathlib.Core.Bool.{true, cond}
 use mathlib.Core.List.{List, _++_, append-assoc}
-use Prim.Native.Nat.{ℕ, _+_, _*_, _/_, _%_, _≤_, _<_, min}
+use Prim.Native.Nat.{ℕ, _+_, _*_, _/_, _≤_, _<_, min}
 use native.Mathlib.Omega.{arith}
-use lib.Dec.{eqb}
 use lib.ListN.{length, take, drop}
 use lib.Seq.{take-at}
-use borrow.Author.Tests.{eq-eqb, ne-eqb, eqb-true, not-false}
-use Rattle.lists.proofs.Sums.{neither}
-use Rattle.lists.specs.Entries.{put}
+use borrow.Author.Tests.{eq-eqb, ne-eqb}
 use Rattle.division.specs.Limits.{mostWeights, divideRefusal}
 use Rattle.division.specs.Shares.{shares, Divided}
 use Rattle.verdict.specs.Check.{verdict}
@@ -21,23 +18,10 @@ use Rattle.verdict.specs.declared.Verdict.{Verdict}
 use Rattle.verdict.specs.declared.Verdict.the-variants.{Refused}
 use Rattle.division.proofs.Laws as laws
 use Rattle.verdict.proofs.Laws as verdicts
-use Rattle.host.specs.Words.{isUneven, numbers, bytes}
-use Rattle.host.specs.Stores.{byteAt, WholeWords}
+use Rattle.words.specs.Words.{isUneven, WholeWords, numbers, bytesOf}
+use Rattle.words.proofs.Whole.{even}
+use Rattle.words.proofs.Digits.{length-numbers}
 use Rattle.host.specs.Calls.{hostDivideRefusal, hostMemory, HostDivided, verdictWord, hostVerdict}
-use Rattle.host.proofs.Digits.{length-numbers, stored-bytes}
-
--- slices of whole words are not uneven
-pub even : (these those : List ℕ) → WholeWords these those → isUneven (length these) (length those) ≡ false
-even these those w = rw (eq-eqb (length these % 8) 0 (w .these-whole), eq-eqb (length those % 8) 0 (w .those-whole))
-
--- slices that are not uneven are whole words
-pub whole-words : (these those : List ℕ) → isUneven (length these) (length those) ≡ false → WholeWords these those
-whole-words these those e =
-    let both = neither (not (eqb (length these % 8) 0)) (not (eqb (length those % 8) 0)) e in
-    record {
-      these-whole = eqb-true _ _ (not-false _ (both .0));
-      those-whole = eqb-true _ _ (not-false _ (both .1));
-    }
 
 module _ (pot : ℕ) (weights amounts : List ℕ) where
   -- of whole words the numbers are judged
@@ -108,7 +92,7 @@ module _ (pot : ℕ) (weights amounts : List ℕ) where
           (laws.length-shares pot (numbers weights) ∙ length-numbers weights)
 
       pub divided : r .answer .number ≡ 0 → (after : List ℕ)
-          → after ≡ put (8 * length (shares pot (numbers weights))) (byteAt (shares pot (numbers weights))) amounts
+          → after ≡ bytesOf (shares pot (numbers weights)) ++ drop (8 * length (shares pot (numbers weights))) amounts
           → HostDivided pot weights amounts after 0
       unfolding hostMemory
       divided e after stored =
@@ -120,7 +104,6 @@ module _ (pot : ℕ) (weights amounts : List ℕ) where
             answer = let z : 0 ≡ hostDivideRefusal pot weights amounts + 256 * 0 = omega arith in z;
             lent =
                 stored
-                ∙ stored-bytes (shares pot (numbers weights)) amounts (omega (arith, fits e, w .these-whole))
-                ∙ ap (λ n. bytes (shares pot (numbers weights)) ++ drop n amounts) words
-                ∙ sym (ap (λ t. cond t (bytes (shares pot (numbers weights)) ++ drop (length weights) amounts) amounts) (eq-eqb (hostDivideRefusal pot weights amounts) 0 accepted));
+                ∙ ap (λ n. bytesOf (shares pot (numbers weights)) ++ drop n amounts) words
+                ∙ sym (ap (λ t. cond t (bytesOf (shares pot (numbers weights)) ++ drop (length weights) amounts) amounts) (eq-eqb (hostDivideRefusal pot weights amounts) 0 accepted));
           }

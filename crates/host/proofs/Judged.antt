@@ -1,22 +1,21 @@
 -- What the check's call answers tells what the check says of the numbers: 256, 0 and the refusals' numbers, 1 to 9, all differ.
 -- Assumes nothing.
 use mathlib.Core.Path.{_≡_, refl, sym, ap, _∙_, subst}
-use mathlib.Core.Logic.{_⊎_, inl, inr, ⊎-elim, _↔_, _≢_}
+use mathlib.Core.Logic.{_⊎_, ⊎-elim, _↔_, _≢_}
 use mathlib.Core.List.{List}
 use Prim.Native.Nat.{ℕ, _/_, _%_, _≤_}
 use native.Mathlib.Omega.{arith}
 use lib.ListN.{length, take}
 use Rattle.lists.specs.Sums.{total}
 use Rattle.answer.specs.Numbers.{BASE}
-use Rattle.answer.proofs.Turns.{zero-or-not}
 use Rattle.closeness.specs.Closeness.{Closest}
 use Rattle.verdict.specs.Check.{verdict, yes, no, neither, meaning}
 use Rattle.verdict.specs.Refused.{FineCheck}
 use Rattle.verdict.specs.declared.Verdict.{Verdict}
 use Rattle.verdict.specs.declared.Verdict.the-variants.{Yes, No, Refused}
 use Rattle.verdict.proofs.Laws as verdicts
-use Rattle.host.specs.Words.{numbers}
-use Rattle.host.specs.Stores.{WholeWords}
+use Rattle.words.specs.Words.{WholeWords, numbers}
+use Rattle.words.proofs.Whole as lent
 use Rattle.host.specs.Calls.{hostDivideRefusal, hostMemory, HostDivided, verdictWord, hostVerdict}
 use Rattle.host.specs.Refused.{HostCheckRefused, by-uneven, by-numbers}
 use Rattle.host.proofs.Calls as calls
@@ -54,22 +53,13 @@ word-neither Yes n e d o = absurd (o (sym e))
 word-neither No n e d o = absurd (d (sym e))
 word-neither (Refused m) n e d o = (refl, omega arith)
 
--- bytes are whole words or not
-split : (these those : List ℕ) → WholeWords these those ⊎ ((length these % 8 ≢ 0) ⊎ (length those % 8 ≢ 0))
-split these those =
-    ⊎-elim
-    (λ (e : length these % 8 ≡ 0).
-    ⊎-elim (λ (f : length those % 8 ≡ 0). inl (record { these-whole = e; those-whole = f })) (λ d. inr (inr d)) (zero-or-not (length those % 8)))
-    (λ d. inr (inl d))
-    (zero-or-not (length these % 8))
-
 module _ (pot : ℕ) (weights amounts : List ℕ) where
   pub uneven : (length weights % 8 ≢ 0) ⊎ (length amounts % 8 ≢ 0) → hostVerdict pot weights amounts ≡ 1
-  uneven d = sym (calls.check-uneven pot weights amounts (reading.uneven weights amounts d))
+  uneven d = sym (calls.check-uneven pot weights amounts (lent.uneven weights amounts d))
 
   -- an answer other than COUNT is of whole words
   whole : (n : ℕ) → hostVerdict pot weights amounts ≡ n → n ≢ 1 → WholeWords weights amounts
-  whole n e d = ⊎-elim (λ (w : WholeWords weights amounts). w) (λ o. absurd (d (sym e ∙ uneven o))) (split weights amounts)
+  whole n e d = ⊎-elim (λ (w : WholeWords weights amounts). w) (λ o. absurd (d (sym e ∙ uneven o))) (lent.whole-or-not weights amounts)
 
   judged : WholeWords weights amounts → hostVerdict pot weights amounts ≡ verdictWord (verdict pot (numbers weights) (numbers amounts))
   judged w = sym (calls.said pot weights amounts w (verdict pot (numbers weights) (numbers amounts)) refl)
@@ -138,7 +128,7 @@ module _ (pot : ℕ) (weights amounts : List ℕ) where
         (verdicts.refused-exactly pot (numbers weights) (numbers amounts) n .0
         (word-neither (verdict pot (numbers weights) (numbers amounts)) n (sym (judged w) ∙ p .0) (p .1) (p .2))))
         (λ d. by-uneven (sym (p .0) ∙ uneven d) d)
-        (split weights amounts)),
+        (lent.whole-or-not weights amounts)),
     refused-back n,
   )
 

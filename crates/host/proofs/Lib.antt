@@ -1,4 +1,3 @@
-pub mod Digits
 pub mod Calls
 pub mod Reading
 pub mod Judged

@@ -1,5 +1,5 @@
--- What is promised of the phone app's calls, beyond their definitions. Nothing else stands here; the proofs are in `Digits`,
--- `Calls`, `Reading`, `Judged` and `Stating`.
+-- What is promised of the phone app's calls, beyond their definitions. Nothing else stands here; the proofs are in `Calls`,
+-- `Reading`, `Judged` and `Stating`, and those about bytes in `words`.
 -- Assumes nothing.
 use mathlib.Core.Path.{_≡_, sym, subst}
 use mathlib.Core.Logic.{_⊎_, _↔_, _≢_}
@@ -16,22 +16,23 @@ use Rattle.verdict.specs.Check.{verdict, meaning}
 use Rattle.verdict.specs.Refused.{FineCheck}
 use Rattle.statement_text.proofs.Promises.{statement-is-short}
 use Rattle.verdict.proofs.Laws as verdicts
-use Rattle.host.specs.Words.{numbers, bytes}
+use Rattle.words.specs.Words.{numbers, bytesOf}
+use Rattle.words.proofs.Whole.{uneven}
+use Rattle.words.proofs.Digits as digits
 use Rattle.statement_text.specs.Statement.{statementOf, mostShown}
 use Rattle.host.specs.Calls.{word, hostDivideRefusal, hostMemory, HostDivided, valueOf, hostVerdict, HostStated}
 use Rattle.host.specs.Refused.{HostCheckRefused}
-use Rattle.host.proofs.Digits as digits
 use Rattle.host.proofs.Calls as calls
 use Rattle.host.proofs.Reading as reading
 use Rattle.host.proofs.Judged as judged
 use Rattle.host.proofs.Stating as stating
 
 -- numbers below 2^64 that are written as bytes and read again are the same numbers ..
-pub numbers-of-bytes : (ns : List ℕ) → ((i : ℕ) → i < length ns → at ns i < 2 ^ 64) → numbers (bytes ns) ≡ ns
+pub numbers-of-bytes : (ns : List ℕ) → ((i : ℕ) → i < length ns → at ns i < 2 ^ 64) → numbers (bytesOf ns) ≡ ns
 numbers-of-bytes = digits.numbers-bytes
 
 -- .. and whole words of bytes that are read as numbers and written again are the same bytes
-pub bytes-of-numbers : (bs : List ℕ) → length bs % 8 ≡ 0 → ((j : ℕ) → j < length bs → at bs j < 256) → bytes (numbers bs) ≡ bs
+pub bytes-of-numbers : (bs : List ℕ) → length bs % 8 ≡ 0 → ((j : ℕ) → j < length bs → at bs j < 256) → bytesOf (numbers bs) ≡ bs
 bytes-of-numbers = digits.bytes-numbers
 
 -- the low byte of an answer is the refusal's number and the bits above it are the value
@@ -57,7 +58,7 @@ bytes-behind-untouched = reading.untouched
 -- "a byte length that isn't a multiple of eight is COUNT" for the division ..
 pub uneven-divide-count : (pot : ℕ) (weights amounts : List ℕ) → (length weights % 8 ≢ 0) ⊎ (length amounts % 8 ≢ 0)
     → hostDivideRefusal pot weights amounts ≡ COUNT
-uneven-divide-count pot weights amounts d = calls.divide-uneven pot weights amounts (reading.uneven weights amounts d)
+uneven-divide-count pot weights amounts d = calls.divide-uneven pot weights amounts (uneven weights amounts d)
 
 -- .. and for the check, whose value is then 0
 pub uneven-check-count : (pot : ℕ) (weights amounts : List ℕ) → (length weights % 8 ≢ 0) ⊎ (length amounts % 8 ≢ 0)

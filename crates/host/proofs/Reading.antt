@@ -2,41 +2,29 @@
 -- fits a byte.
 -- Assumes nothing.
 use mathlib.Core.Path.{_≡_, refl, sym, ap, _∙_, subst}
-use mathlib.Core.Bool.{true, false, cond, or-true}
-use mathlib.Core.Logic.{_⊎_, ⊎-elim, _≢_}
+use mathlib.Core.Bool.{true, false, cond}
+use mathlib.Core.Logic.{⊎-elim, _≢_}
 use mathlib.Core.List.{List, _++_}
 use Prim.Native.Nat.{ℕ, _+_, _*_, _/_, _%_, _≤_, _<_}
 use native.Mathlib.Omega.{arith}
 use lib.ListN.{length, take, drop, length-append, length-drop}
 use lib.Seq.{take-at, drop-at}
-use borrow.Author.Tests.{eq-eqb, ne-eqb}
+use borrow.Author.Tests.{eq-eqb}
 use Rattle.lists.proofs.Ranks.{true-or-false}
-use Rattle.lists.proofs.Entries.{length-listed}
 use Rattle.answer.proofs.Turns.{look-none, zero-or-not}
 use Rattle.division.specs.Limits.{divideRefusal}
 use Rattle.division.specs.Shares.{shares}
 use Rattle.verdict.specs.Check.{verdict, meaning}
 use Rattle.division.proofs.Laws as laws
 use Rattle.verdict.proofs.Laws as verdicts
-use Rattle.host.specs.Words.{isUneven, numbers, bytes}
-use Rattle.host.specs.Stores.{byteAt, WholeWords}
+use Rattle.words.specs.Words.{isUneven, WholeWords, numbers, bytesOf}
+use Rattle.words.proofs.Whole.{whole-words}
+use Rattle.words.proofs.Digits.{length-numbers, length-bytes, numbers-bytes}
 use Rattle.host.specs.Calls.{word, hostDivideRefusal, hostMemory, valueOf, hostVerdict}
-use Rattle.host.proofs.Digits.{numbers-bytes, length-numbers}
 use Rattle.host.proofs.Calls as calls
 
 pub answer-in-parts : (number value : ℕ) → number < 256 → (word number value % 256 ≡ number) × (word number value / 256 ≡ value)
 answer-in-parts number value b = (omega arith, omega arith)
-
-pub uneven : (these those : List ℕ) → (length these % 8 ≢ 0) ⊎ (length those % 8 ≢ 0) → isUneven (length these) (length those) ≡ true
-uneven these those d =
-    ⊎-elim
-    (λ (first : length these % 8 ≢ 0). rw (ne-eqb (length these % 8) 0 first))
-    (λ (second : length those % 8 ≢ 0). simp (or-true, ne-eqb (length those % 8) 0 second))
-    d
-
-length-bytes : (ns : List ℕ) → length (bytes ns) ≡ 8 * length ns
-unfolding bytes
-length-bytes ns = length-listed (8 * length ns) (byteAt ns)
 
 module _ (pot : ℕ) (weights amounts : List ℕ) where
   pub number-fits : hostDivideRefusal pot weights amounts < 256
@@ -44,7 +32,7 @@ module _ (pot : ℕ) (weights amounts : List ℕ) where
       ⊎-elim
       (λ (odd : isUneven (length weights) (length amounts) ≡ true). omega (arith, calls.divide-uneven pot weights amounts odd))
       (λ (even : isUneven (length weights) (length amounts) ≡ false).
-      omega (arith, calls.refusal-even pot weights amounts (calls.whole-words weights amounts even), laws.divide-number pot (numbers weights) (length amounts / 8)))
+      omega (arith, calls.refusal-even pot weights amounts (whole-words weights amounts even), laws.divide-number pot (numbers weights) (length amounts / 8)))
       (true-or-false (isUneven (length weights) (length amounts)))
 
   pub said-in-parts : WholeWords weights amounts
@@ -66,24 +54,24 @@ module _ (pot : ℕ) (weights amounts : List ℕ) where
     looked = look-none (isUneven (length weights) (length amounts)) 1 (divideRefusal pot (numbers weights) (length amounts / 8)) (λ q. omega arith) e
 
     pub whole : WholeWords weights amounts
-    whole = calls.whole-words weights amounts (looked .0)
+    whole = whole-words weights amounts (looked .0)
 
-    long : length (bytes (shares pot (numbers weights))) ≡ length weights
+    long : length (bytesOf (shares pot (numbers weights))) ≡ length weights
     long =
         length-bytes (shares pot (numbers weights))
         ∙ ap (λ n. 8 * n) (laws.length-shares pot (numbers weights) ∙ length-numbers weights)
         ∙ (let all : 8 * (length weights / 8) ≡ length weights = omega (arith, whole .these-whole) in all)
 
-    memory-is : hostMemory pot weights amounts ≡ bytes (shares pot (numbers weights)) ++ drop (length weights) amounts
+    memory-is : hostMemory pot weights amounts ≡ bytesOf (shares pot (numbers weights)) ++ drop (length weights) amounts
     unfolding hostMemory
     memory-is =
-        ap (λ t. cond t (bytes (shares pot (numbers weights)) ++ drop (length weights) amounts) amounts)
+        ap (λ t. cond t (bytesOf (shares pot (numbers weights)) ++ drop (length weights) amounts) amounts)
         (eq-eqb (hostDivideRefusal pot weights amounts) 0 e)
 
-    first-bytes : take (length weights) (hostMemory pot weights amounts) ≡ bytes (shares pot (numbers weights))
+    first-bytes : take (length weights) (hostMemory pot weights amounts) ≡ bytesOf (shares pot (numbers weights))
     first-bytes =
         ap (take (length weights)) memory-is
-        ∙ take-at (bytes (shares pot (numbers weights))) (drop (length weights) amounts) (length weights) long
+        ∙ take-at (bytesOf (shares pot (numbers weights))) (drop (length weights) amounts) (length weights) long
 
     pub as-many-bytes : length (take (length weights) (hostMemory pot weights amounts)) ≡ length weights
     as-many-bytes = ap length first-bytes ∙ long
@@ -98,15 +86,15 @@ module _ (pot : ℕ) (weights amounts : List ℕ) where
     behind : drop (length weights) (hostMemory pot weights amounts) ≡ drop (length weights) amounts
     behind =
         ap (drop (length weights)) memory-is
-        ∙ drop-at (bytes (shares pot (numbers weights))) (drop (length weights) amounts) (length weights) long
+        ∙ drop-at (bytesOf (shares pot (numbers weights))) (drop (length weights) amounts) (length weights) long
 
     same-length : length (hostMemory pot weights amounts) ≡ length amounts
     same-length =
         let room : length (numbers weights) ≤ length amounts / 8 =
         laws.divide-accepted pot (numbers weights) (length amounts / 8) (looked .1) .1 in
         ap length memory-is
-        ∙ length-append (bytes (shares pot (numbers weights))) (drop (length weights) amounts)
-        ∙ (let sum : length (bytes (shares pot (numbers weights))) + length (drop (length weights) amounts) ≡ length amounts =
+        ∙ length-append (bytesOf (shares pot (numbers weights))) (drop (length weights) amounts)
+        ∙ (let sum : length (bytesOf (shares pot (numbers weights))) + length (drop (length weights) amounts) ≡ length amounts =
         omega (arith, long, length-drop (length weights) amounts, length-numbers weights, whole .these-whole) in sum)
 
   pub untouched :

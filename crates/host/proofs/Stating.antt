@@ -9,17 +9,17 @@ use native.Mathlib.Omega.{arith}
 use lib.ListN.{length, drop}
 use Rattle.lists.proofs.Ranks.{lt-or-le}
 use Rattle.answer.specs.declared.Answer.{Answer}
-use Rattle.answer.specs.Numbers.{ROOM, head}
+use Rattle.answer.specs.Numbers.{ROOM, HEAD}
 use Rattle.answer.proofs.Turns.{refuse-none, refuse-number}
 use Rattle.text.specs.Places.{stored}
 use Rattle.text.proofs.Stores.{stored-in-front, stored-none}
-use Rattle.monthfile.proofs.Rooms.{room-short, room-enough}
-use Rattle.statement_text.specs.declared.Shown.{Shown}
+use Rattle.statement_lines.specs.declared.Shown.{Shown}
 use Rattle.statement_text.specs.Statement.{statementOf}
 use Rattle.statement_text.specs.Calls.{fitting, Shows}
-use Rattle.statement_text.proofs.Showing.{fitting-all, fitting-none, fitting-short}
 use Rattle.statement_text.proofs.Promises.{statement-is-short}
 use Rattle.host.specs.Calls.{word, HostStated}
+use Rattle.fileform.proofs.Rooms.{room-short, room-enough}
+use Rattle.statement_lines.proofs.Showing.{fitting-all, fitting-none, fitting-short}
 
 module _ (text before after : List ℕ) (s : Shown) (shows : Shows (statementOf text) before after s) where
   pub length-small : s .length ≤ 10128
@@ -32,11 +32,11 @@ module _ (text before after : List ℕ) (s : Shown) (shows : Shows (statementOf 
       ⊎-elim
       (λ (h : length before < length (statementOf text)).
       let e : s .answer .number ≡ 2 =
-      ap (λ (a : Answer). a .number) (shows .answers ∙ sym (room-short head (length (statementOf text)) (length before) h)) ∙ refuse-number ROOM head 0 in
+      ap (λ (a : Answer). a .number) (shows .answers ∙ sym (room-short HEAD (length (statementOf text)) (length before) h)) ∙ refuse-number ROOM HEAD 0 in
       omega arith)
       (λ (h : length (statementOf text) ≤ length before).
       let e : s .answer .number ≡ 0 =
-      ap (λ (a : Answer). a .number) (shows .answers ∙ sym (room-enough head (length (statementOf text)) (length before) h)) ∙ refuse-number 0 head 0 in
+      ap (λ (a : Answer). a .number) (shows .answers ∙ sym (room-enough HEAD (length (statementOf text)) (length before) h)) ∙ refuse-number 0 HEAD 0 in
       omega arith)
       (lt-or-le (length before) (length (statementOf text)))
 
@@ -54,7 +54,7 @@ statement-without-room text before after r h short =
     let none : fitting (statementOf text) (length before) ≡ [] = fitting-none (statementOf text) (length before) short in (
       h .answer
           ∙ ap₂ word
-          (ap (λ (a : Answer). a .number) (sym (room-short head (length (statementOf text)) (length before) short)) ∙ refuse-number ROOM head 0)
+          (ap (λ (a : Answer). a .number) (sym (room-short HEAD (length (statementOf text)) (length before) short)) ∙ refuse-number ROOM HEAD 0)
           (ap length none),
       h .lent ∙ ap (stored before 0) none ∙ stored-none before 0,
     )
@@ -66,6 +66,6 @@ statement-with-room text before after r h enough =
     let all : fitting (statementOf text) (length before) ≡ statementOf text = fitting-all (statementOf text) (length before) enough in (
       h .answer
           ∙ ap₂ (λ (a : Answer) l. word (a .number) (length l))
-          (sym (room-enough head (length (statementOf text)) (length before) enough) ∙ refuse-none 0 head 0 refl) all,
+          (sym (room-enough HEAD (length (statementOf text)) (length before) enough) ∙ refuse-none 0 HEAD 0 refl) all,
       h .lent ∙ ap (stored before 0) all ∙ stored-in-front before (statementOf text) enough,
     )

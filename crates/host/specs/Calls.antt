@@ -6,7 +6,7 @@ use mathlib.Core.Bool.{cond}
 use mathlib.Core.List.{List, _++_}
 use lib.Dec.{eqb}
 use lib.ListN.{length, drop}
-use Rattle.answer.specs.Numbers.{COUNT, head}
+use Rattle.answer.specs.Numbers.{COUNT, HEAD}
 use Rattle.answer.specs.Turns.{look}
 use Rattle.division.specs.Limits.{divideRefusal}
 use Rattle.division.specs.Shares.{shares}
@@ -16,7 +16,7 @@ use Rattle.tables.specs.Counts.{roomFor}
 use Rattle.text.specs.Places as places
 use Rattle.statement_text.specs.Statement.{statementOf}
 use Rattle.statement_text.specs.Calls.{fitting}
-use Rattle.host.specs.Words.{wordBytes, isUneven, numbers, bytes}
+use Rattle.words.specs.Words.{wordBytes, isUneven, numbers, bytesOf}
 
 -- one word for an answer: the refusal's number in the low byte, the value above it. So packed by us: the paper leaves it open
 abbrev pub word : ℕ → ℕ → ℕ
@@ -31,7 +31,7 @@ hostDivideRefusal pot weights amounts =
 unfoldable pub hostMemory : ℕ → List ℕ → List ℕ → List ℕ
 hostMemory pot weights amounts =
     cond (eqb (hostDivideRefusal pot weights amounts) 0)
-    (bytes (shares pot (numbers weights)) ++ drop (length weights) amounts)
+    (bytesOf (shares pot (numbers weights)) ++ drop (length weights) amounts)
     amounts
 
 -- What `noketualo_divide` answers and leaves in the lent bytes.
@@ -57,5 +57,5 @@ hostVerdict pot weights amounts =
 -- What `noketualo_statement`, a call of ours beside the paper's two, answers and leaves in the lent bytes: ROOM and nothing, or the statement and its length. A month that
 -- is refused has a statement too, so the answer's number is then 0.
 pub record HostStated (text before after : List ℕ) (r : ℕ) : Type 0 where
-  pub answer : r ≡ word (roomFor head (length (statementOf text)) (length before) .number) (length (fitting (statementOf text) (length before)))
+  pub answer : r ≡ word (roomFor HEAD (length (statementOf text)) (length before) .number) (length (fitting (statementOf text) (length before)))
   pub lent : after ≡ places.stored before 0 (fitting (statementOf text) (length before))

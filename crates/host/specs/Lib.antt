@@ -1,4 +1,2 @@
-pub mod Words
 pub mod Calls
 pub mod Refused
-pub mod Stores

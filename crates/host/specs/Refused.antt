@@ -7,7 +7,7 @@ use mathlib.Core.List.{List}
 use lib.ListN.{length}
 use Rattle.answer.specs.Numbers.{COUNT}
 use Rattle.verdict.specs.Refused.{CheckRefused}
-use Rattle.host.specs.Words.{wordBytes, numbers}
+use Rattle.words.specs.Words.{wordBytes, numbers}
 
 -- "a byte length that isn't a multiple of eight is COUNT"; whole words are refused as the check of their numbers is
 pub data HostCheckRefused (pot : ℕ) (weights amounts : List ℕ) (n : ℕ) : Type 0 where

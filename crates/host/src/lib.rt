@@ -3,16 +3,14 @@
 // in the bits above. A refusal writes no byte. The calls keep nothing between them.
 use answer::ACCEPTED;
 use answer::COUNT;
+use division::limits::MOST_WEIGHTS;
 use verdict::Verdict;
 ghost use mathlib.Core.Path.{_≡_};
-ghost use Prim.Native.Nat.{_/_, _≤_};
+ghost use Prim.Native.Nat.{_/_, _≤_, min};
 ghost use lib.ListN.{length};
 ghost use Rattle.division.specs.Limits.{mostWeights};
-ghost use Rattle.host.specs.Words.{wordBytes};
+ghost use Rattle.words.specs.Words.{wordBytes, WholeWords};
 ghost use Rattle.host.specs.Calls.{HostDivided, hostVerdict, HostStated};
-ghost use Rattle.host.specs.Stores.{WholeWords};
-
-mod words;
 
 // A value is taken times this, so that it stands above the low byte.
 const ABOVE: u64 = 256;
@@ -21,6 +19,16 @@ const ABOVE: u64 = 256;
 const YES: u64 = ABOVE;
 
 const NO: u64 = 0;
+
+// A number of words, or the most weights that a call takes.
+fn at_most(count: usize) -> usize
+    ensures { λ r. ⌜ r ≡ min count mostWeights ⌝ }
+{
+    if count <= MOST_WEIGHTS {
+        return count;
+    }
+    MOST_WEIGHTS
+}
 
 // Divides in lent working words: the weights' numbers go to the first, the shares to the second, and from there to `amounts`.
 fn divide_words(
@@ -36,7 +44,7 @@ fn divide_words(
 {
     let count = weights.len() / words::WORD;
     words::load(weights, numbers);
-    let room = words::at_most(amounts.len() / words::WORD);
+    let room = at_most(amounts.len() / words::WORD);
     let division = division::divide(pot, &numbers[..count], &mut shares[..room]);
     let answer = division.answer;
     let number = answer.number;
@@ -79,7 +87,7 @@ pub extern "C" fn noketualo_divide(pot: u64, weights: &[u8], amounts: &mut [u8])
     if words::is_uneven(weights.len(), amounts.len()) {
         return COUNT;
     }
-    if words::MOST < weights.len() / words::WORD {
+    if MOST_WEIGHTS < weights.len() / words::WORD {
         return COUNT;
     }
     let mut numbers = [0u64; 64];
@@ -96,7 +104,7 @@ pub extern "C" fn noketualo_check(pot: u64, weights: &[u8], amounts: &[u8]) -> u
     if words::is_uneven(weights.len(), amounts.len()) {
         return COUNT;
     }
-    if words::MOST < weights.len() / words::WORD {
+    if MOST_WEIGHTS < weights.len() / words::WORD {
         return COUNT;
     }
     if amounts.len() != weights.len() {

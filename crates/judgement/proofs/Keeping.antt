@@ -1,27 +1,28 @@
 -- Each look finds its fault exactly where a table or a row breaks the rule.
 -- Assumes nothing.
-use mathlib.Core.Path.{_≡_, refl, sym, subst, _∙_}
-use mathlib.Core.Logic.{_⊎_, inl, inr, ⊎-elim, _≢_}
-use mathlib.Core.Bool.{Bool, true, false, true≢false, not, cond, _&&_, _||_}
+use mathlib.Core.Path.{_≡_, refl, sym, ap, subst, _∙_}
+use mathlib.Core.Logic.{⊎-elim, _≢_}
+use mathlib.Core.Bool.{Bool, true, false, not, cond, _&&_, _||_, and-eq-true-iff}
 use mathlib.Core.List.{List}
-use Prim.Native.Nat.{ℕ, _+_, _-_, _%_, _≤_, _<_}
+use Prim.Native.Nat.{ℕ, _+_, _-_, _%_, _<_}
 use native.Mathlib.Omega.{arith}
 use lib.Dec.{ltb, eqb}
 use lib.ListN.{length}
-use borrow.Author.Tests.{lt-ltb, le-ltb, eqb-true, eqb-false, eq-eqb, ne-eqb, not-false}
-use Rattle.lists.specs.Sums.{any}
-use Rattle.lists.proofs.Ranks.{lt-or-le, equal-or-not, true-or-false}
-use Rattle.lists.proofs.Search.{any-found, none-at, none-from}
+use borrow.Author.Tests.{lt-ltb, ltb-true, eqb-true, eqb-false, eq-eqb, ne-eqb, not-false}
+use Rattle.lists.specs.Sums.{any, every}
+use Rattle.lists.proofs.Sums.{every-at, every-from}
+use Rattle.lists.proofs.Ranks.{equal-or-not, true-or-false}
+use Rattle.lists.proofs.Search.{any-at, any-found, none-at, none-from}
 use Rattle.answer.proofs.Turns.{zero-or-not}
 use Rattle.tables.specs.declared.Table.{Table}
-use Rattle.tables.specs.Shape.{width, limit, rows, Tables, wordsOf}
-use Rattle.tables.specs.Counts.{Counted}
-use Rattle.tables.specs.Columns.{entry, accountCustomer, accountZone, loadAccount, loadDay}
-use Rattle.tables.specs.Limits.{reactive, mostReserve, reserveLimit}
-use Rattle.rows.specs.Rows.{outside, notAbove, byFirst, byAccountAndDay, names, unknown, samePair, taken}
-use Rattle.judgement.specs.Good.{Within, FirstAbove, LoadAbove, Known, OwnPair}
+use Rattle.tables.specs.Shape.{keyColumns, width, limit, rows, Tables, wordsOf}
+use Rattle.tables.specs.Counts.{GoodCount}
+use Rattle.tables.specs.Columns.{entry, accountCustomer, accountZone}
+use Rattle.month.specs.Limits.{reactive, mostReserve, reserveLimit}
+use Rattle.rows.specs.Rows.{outside, notAbove, above, rowAbove, names, unknown, samePair, taken}
+use Rattle.judgement.specs.Good.{Within, Above, Known, OwnPair}
 use Rattle.rows.proofs.Looks.{first-row, later-row, row-found}
-use Rattle.tables.proofs.Tests.{Tests, reworded, both, at-least, equal, less}
+use Rattle.tables.proofs.Tests.{Tests, reworded, both, at-least, equal}
 
 -- where a rule is broken, its fault is there
 pub faulty : {Rule : Type 0} {fault : Bool} → Tests Rule fault → ¬ Rule → fault ≡ true
@@ -30,7 +31,7 @@ faulty {Rule} {fault} test broken =
 
 -- COUNT
 pub count-tested : (t : Tables) (table : Table)
-    → Tests (Counted t table) (not (eqb (length (wordsOf t table) % width table) 0) || ltb (limit table) (rows table (wordsOf t table)))
+    → Tests (GoodCount t table) (not (eqb (length (wordsOf t table) % width table) 0) || ltb (limit table) (rows table (wordsOf t table)))
 count-tested t table =
     reworded (λ p. record { whole = p .0; few = p .1 }) (λ r. (r .whole, r .few))
     (both (equal (length (wordsOf t table) % width table) 0) (at-least (rows table (wordsOf t table)) (limit table)))
@@ -65,28 +66,37 @@ above-before {A} above test i =
     })
     (zero-or-not i)
 
-pub first-above : (table : Table) (words : List ℕ) (j i : ℕ) → Tests (FirstAbove table words j i) (not (byFirst table words j i))
-first-above table words j i = less (entry table 0 words j) (entry table 0 words i)
+-- by the key columns
+pub above-tested : (t : Tables) (table : Table) (j i : ℕ) → Tests (Above t table j i) (not (rowAbove table (wordsOf t table) j i))
+unfolding above
+above-tested t table j i = record {
+  holds = λ e.
+      let found = any-found (keyColumns table) largerAt (not-false (any (keyColumns table) largerAt) e) in
+      let parts = and-eq-true-iff (every (found .0) same) (ltb (lower (found .0)) (upper (found .0))) .0 (found .2) in
+      record {
+        column = found .0;
+        in-key = found .1;
+        same-before = λ c h. eqb-true (lower c) (upper c) (every-at (found .0) same (parts .0) c h);
+        larger = ltb-true (lower (found .0)) (upper (found .0)) (parts .1);
+      };
+  kept = λ a.
+      ap not
+      (any-at (keyColumns table) largerAt (a .column) (a .in-key)
+      (and-eq-true-iff (every (a .column) same) (ltb (lower (a .column)) (upper (a .column))) .1
+      (every-from (a .column) same (λ c h. eq-eqb (lower c) (upper c) (a .same-before c h)), lt-ltb (lower (a .column)) (upper (a .column)) (a .larger))));
+}
+  where
+    lower : ℕ → ℕ
+    lower c = entry table c (wordsOf t table) j
 
--- of two pairs, one stands above the other by its first, or by its second where the first is the same
-pair-above : (a b c d : ℕ) → Tests ((a < b) ⊎ ((a ≡ b) × (c < d))) (not (ltb a b || (eqb a b && ltb c d)))
-pair-above a b c d =
-    ⊎-elim
-    (λ (l : a < b). record { holds = λ e. inl l; kept = λ r. rw (lt-ltb a b l) })
-    (λ (l : b ≤ a).
-    ⊎-elim
-    (λ (q : a ≡ b).
-    reworded (λ m. inr (q, m)) (λ r. ⊎-elim (λ m. absurd (omega arith)) (λ p. p .1) r)
-    (rw (le-ltb a b l, eq-eqb a b q) (less c d)))
-    (λ (q : a ≢ b). record {
-      holds = λ e. absurd (true≢false (sym (rw (le-ltb a b l, ne-eqb a b q)) ∙ e));
-      kept = λ r. absurd (⊎-elim (λ m. omega arith) (λ p. q (p .0)) r);
-    })
-    (equal-or-not a b))
-    (lt-or-le a b)
+    upper : ℕ → ℕ
+    upper c = entry table c (wordsOf t table) i
 
-pub load-above : (loads : List ℕ) (j i : ℕ) → Tests (LoadAbove loads j i) (not (byAccountAndDay loads j i))
-load-above loads j i = pair-above (loadAccount loads j) (loadAccount loads i) (loadDay loads j) (loadDay loads i)
+    same : ℕ → Bool
+    same c = eqb (lower c) (upper c)
+
+    largerAt : ℕ → Bool
+    largerAt c = every c same && ltb (lower c) (upper c)
 
 -- LINK
 pub known : (table : Table) (words : List ℕ) (x : ℕ) → Tests (Known table words x) (unknown table words x)

@@ -1,4 +1,5 @@
 mod Refusals
+pub mod Outcomes
 mod Turning
 mod Keeping
 mod Rulings

@@ -1,67 +1,90 @@
 -- What the judgement of a month's input promises.
 -- Assumes nothing.
 use mathlib.Core.Path.{_≡_, sym, ap, subst, _∙_}
-use mathlib.Core.Logic.{_≢_, _↔_}
-use mathlib.Core.Bool.{true≢false}
+use mathlib.Core.Logic.{⊎-elim, _≢_, _↔_}
 use Prim.Native.Nat.{ℕ, _<_}
 use native.Mathlib.Omega.{arith}
 use Rattle.answer.specs.declared.Answer.{Answer}
 use Rattle.answer.specs.Numbers.{MONTH}
 use Rattle.answer.specs.Turns.{accepted}
+use Rattle.answer.proofs.Turns.{zero-or-not}
+use Rattle.month.specs.declared.Month.{Month}
 use Rattle.month.specs.Limits.{mostRate}
 use Rattle.month.specs.Calendar.{InCalendar}
-use Rattle.month.proofs.Promises.{month-exactly}
+use Rattle.tables.specs.declared.Head.{Head}
 use Rattle.tables.specs.declared.Table.{Table}
 use Rattle.tables.specs.declared.Table.the-variants.{Zones, Accounts}
 use Rattle.tables.specs.Shape.{rows, Tables, wordsOf}
 use Rattle.tables.specs.Columns.{accountZone}
-use Rattle.judgement.specs.Judgement.{judged}
+use Rattle.judgement.specs.Judgement.{judged, monthIn, goodOr, judgedAs, judgedAnswer}
+use Rattle.judgement.specs.declared.Judged.the-variants as outcome
 use Rattle.judgement.specs.Good.{Within, Above, Known, Linked, GoodRow, GoodTable, Roomy, GoodFrame, GoodMonth}
-use Rattle.tables.specs.Counts.{Counted}
+use Rattle.tables.specs.Counts.{GoodCount}
 use Rattle.judgement.specs.Refused.{Refused}
+use Rattle.judgement.proofs.Outcomes.{good-given, refused-given, good-told, refused-told}
 use Rattle.judgement.proofs.Ascents.{climb, above-transitive}
 use Rattle.judgement.proofs.Judging.{judged-good, judged-why, month-why}
 use Rattle.judgement.proofs.Reasons.{good-unrefused, judged-exactly}
 
-module _ (month days nonzone : ℕ) (t : Tables) (lentCharges lentCredits : ℕ) where
+module _ (head : Head) (t : Tables) (lentCharges lentCredits : ℕ) where
   -- what is accepted is a good month ..
-  pub accepted-good : judged month days nonzone t lentCharges lentCredits ≡ accepted → GoodMonth month days nonzone t lentCharges lentCredits
-  accepted-good e = judged-good month days nonzone t lentCharges lentCredits (ap (λ (a : Answer). a .number) e)
+  pub accepted-good : judged head t lentCharges lentCredits ≡ accepted → GoodMonth head t lentCharges lentCredits
+  accepted-good e = judged-good head t lentCharges lentCredits (ap (λ (a : Answer). a .number) e)
 
   -- .. whichever table and row the answer names ..
-  pub unrefused-good : judged month days nonzone t lentCharges lentCredits .number ≡ 0 → GoodMonth month days nonzone t lentCharges lentCredits
-  unrefused-good = judged-good month days nonzone t lentCharges lentCredits
+  pub unrefused-good : judged head t lentCharges lentCredits .number ≡ 0 → GoodMonth head t lentCharges lentCredits
+  unrefused-good = judged-good head t lentCharges lentCredits
 
   -- .. and none that keeps them is refused here; its divisions come after
-  pub good-accepted : GoodMonth month days nonzone t lentCharges lentCredits → judged month days nonzone t lentCharges lentCredits ≡ accepted
-  good-accepted good = good-unrefused month days nonzone t lentCharges lentCredits good
+  pub good-accepted : GoodMonth head t lentCharges lentCredits → judged head t lentCharges lentCredits ≡ accepted
+  good-accepted good = good-unrefused head t lentCharges lentCredits good
 
   -- a month is refused with an answer exactly when that names the first rule that is broken, and where: all that is looked at
   -- earlier is right
-  pub refused-exactly : (a : Answer) → Refused month days nonzone t lentCharges lentCredits a ↔ ((judged month days nonzone t lentCharges lentCredits ≡ a) × (a .number ≢ 0))
-  refused-exactly = judged-exactly month days nonzone t lentCharges lentCredits
+  pub refused-exactly : (a : Answer) → Refused head t lentCharges lentCredits a ↔ ((judged head t lentCharges lentCredits ≡ a) × (a .number ≢ 0))
+  refused-exactly = judged-exactly head t lentCharges lentCredits
+
+  -- the answer is a month exactly where the input is good, and it is the month of the head ..
+  pub month-given : (m : Month) → (judgedAs head t lentCharges lentCredits ≡ outcome.Good m) ↔ (GoodMonth head t lentCharges lentCredits × (m ≡ monthIn head))
+  month-given m = (
+    (λ e. let told = good-told (monthIn head) m (judged head t lentCharges lentCredits) e in (unrefused-good (told .0), told .1)),
+    λ p.
+        good-given (monthIn head) (judged head t lentCharges lentCredits) (ap (λ (a : Answer). a .number) (good-accepted (p .0)))
+        ∙ ap outcome.Good (sym (p .1)),
+  )
+
+  -- .. else it is the refusal with its reason ..
+  pub refusal-given : (a : Answer) → (judgedAs head t lentCharges lentCredits ≡ outcome.Refused a) ↔ Refused head t lentCharges lentCredits a
+  refusal-given a = (
+    (λ e.
+        let told = refused-told (monthIn head) (judged head t lentCharges lentCredits) a e in
+        refused-exactly a .1 (told .1, λ z. told .0 (ap (λ (b : Answer). b .number) (told .1) ∙ z))),
+    λ why.
+        let its = refused-exactly a .0 why in
+        ap (goodOr (monthIn head)) (its .0) ∙ refused-given (monthIn head) a (its .1),
+  )
+
+  -- .. and in either case it says the paper's answer
+  pub answer-given : judgedAnswer (judgedAs head t lentCharges lentCredits) ≡ judged head t lentCharges lentCredits
+  answer-given =
+      ⊎-elim
+      (λ (z : judged head t lentCharges lentCredits .number ≡ 0).
+      ap judgedAnswer (good-given (monthIn head) (judged head t lentCharges lentCredits) z) ∙ sym (good-accepted (unrefused-good z)))
+      (λ (d : judged head t lentCharges lentCredits .number ≢ 0). ap judgedAnswer (refused-given (monthIn head) (judged head t lentCharges lentCredits) d))
+      (zero-or-not (judged head t lentCharges lentCredits .number))
 
   -- before any row is looked at, all is right exactly where tables and outputs are, the month is the calendar's and the rate in range
-  pub frame-exactly : GoodFrame month days nonzone t lentCharges lentCredits
-      ↔ (((table : Table) → Counted t table) × Roomy t lentCharges lentCredits × InCalendar month days × Within 0 mostRate nonzone)
+  pub frame-exactly : GoodFrame head t lentCharges lentCredits
+      ↔ (((table : Table) → GoodCount t table) × Roomy t lentCharges lentCredits × InCalendar (head .month) (head .days) × Within 0 mostRate (head .nonzone))
   frame-exactly = (
-    (λ good. (good .counted, good .roomy, month-exactly month days .0 (good .month-known), good .nonzone-in-range)),
-    λ parts.
-        record {
-          counted = parts .0;
-          roomy = parts .1;
-          month-known = month-exactly month days .1 (parts .2);
-          nonzone-in-range = parts .3;
-        },
+    (λ good. (good .counted, good .roomy, good .month-known, good .nonzone-in-range)),
+    λ parts. record { counted = parts .0; roomy = parts .1; month-known = parts .2; nonzone-in-range = parts .3 },
   )
 
   -- what is refused with MONTH is not the calendar's
-  pub month-refused-why : judged month days nonzone t lentCharges lentCredits .number ≡ MONTH → ¬ InCalendar month days
-  month-refused-why e known =
-      true≢false
-      (sym (month-exactly month days .1 known)
-      ∙ month-why month days nonzone t lentCharges lentCredits (judged month days nonzone t lentCharges lentCredits)
-      (judged-why month days nonzone t lentCharges lentCredits (λ z. omega arith)) e)
+  pub month-refused-why : judged head t lentCharges lentCredits .number ≡ MONTH → ¬ InCalendar (head .month) (head .days)
+  month-refused-why e =
+      month-why head t lentCharges lentCredits (judged head t lentCharges lentCredits) (judged-why head t lentCharges lentCredits (λ z. omega arith)) e
 
 -- "Zones, owners, units, accounts and reservations strictly ascend by their first entry, loads by account, then day"
 pub strictly-ascend : (days : ℕ) (t : Tables) (table : Table) → GoodTable days t table → (i j : ℕ) → i < j → j < rows table (wordsOf t table) → Above t table i j

@@ -4,9 +4,9 @@ use mathlib.Core.Path.{_≡_, refl, sym}
 use mathlib.Core.Logic.{_≢_}
 use mathlib.Core.Bool.{Bool, true, false}
 use mathlib.Core.List.{List}
-use Prim.Native.Nat.{ℕ, _+_}
+use Prim.Native.Nat.{ℕ}
 use native.Mathlib.Omega.{arith}
-use Rattle.month.specs.Limits.{mostRate, mostAnnual, mostLoad, mostEnergy}
+use Rattle.month.specs.Limits.{mostRate, mostAnnual, mostLoad, mostEnergy, lastZone, lastOwner, lastUnit, lastAccount, lastCustomer, blackStart, reactive}
 use Rattle.tables.specs.declared.Table.{Table}
 use Rattle.tables.specs.declared.Table.the-variants.{Zones, Owners, Units, Accounts, Loads, Reservations}
 use Rattle.tables.specs.Shape.{Tables, wordsOf}
@@ -32,12 +32,11 @@ use Rattle.tables.specs.Columns.{
   reservationReserved,
   reservationCurtailed,
 }
-use Rattle.tables.specs.Limits.{lastZone, lastOwner, lastUnit, lastAccount, lastCustomer, blackStart, reactive}
-use Rattle.rows.specs.Rows.{rowNumber, notAbove, byFirst, byAccountAndDay, zoneOutside, ownerOutside, unitOutside, accountOutside, loadOutside, reservationOutside, rowOutside, rowAbove, rowUnlinked, rowTaken, rowIn, rowOf}
-use Rattle.judgement.specs.Good.{ZoneInRange, OwnerInRange, UnitInRange, AccountInRange, LoadInRange, ReservationInRange, InRange, FirstAbove, Ascending, Linked, Unpaired, GoodRow}
+use Rattle.rows.specs.Rows.{rowNumber, notAbove, zoneOutside, ownerOutside, unitOutside, accountOutside, loadOutside, reservationOutside, rowOutside, rowAbove, rowUnlinked, rowTaken, rowOf}
+use Rattle.judgement.specs.Good.{ZoneInRange, OwnerInRange, UnitInRange, AccountInRange, LoadInRange, ReservationInRange, InRange, Ascending, Linked, Unpaired, GoodRow}
 use Rattle.judgement.specs.Refused.{FirstBroken, by-range, by-order, by-link, by-pair}
 use Rattle.tables.proofs.Tests.{Tests, breaks, reworded, no-rule, both}
-use Rattle.judgement.proofs.Keeping.{faulty, within, reserve, above-before, first-above, load-above, known, unless-zero, own-pair}
+use Rattle.judgement.proofs.Keeping.{faulty, within, reserve, above-before, above-tested, known, unless-zero, own-pair}
 
 -- RANGE, table by table
 zone-range : (zones : List ℕ) (i : ℕ) → Tests (ZoneInRange zones i) (zoneOutside zones i)
@@ -127,19 +126,11 @@ module _ (days : ℕ) (t : Tables) (table : Table) (i : ℕ) where
   ruled {range = false} {order = false} {link = false} {pair = false} r o l p =
       fine refl (record { in-range = r .holds refl; ascending = o .holds refl; linked = l .holds refl; unpaired = p .holds refl })
 
-ascending-by-first : (table : Table) (words : List ℕ) (i : ℕ) → Tests ((j : ℕ) → i ≡ j + 1 → FirstAbove table words j i) (notAbove (byFirst table words) i)
-ascending-by-first table words = above-before (byFirst table words) (first-above table words)
-
 -- ORDER, LINK and PAIR, table by table
 order-tested : (t : Tables) (table : Table) (i : ℕ) → Tests (Ascending t table i) (notAbove (rowAbove table (wordsOf t table)) i)
-order-tested t Zones i = ascending-by-first Zones (t .zones) i
-order-tested t Owners i = ascending-by-first Owners (t .owners) i
-order-tested t Units i = ascending-by-first Units (t .units) i
-order-tested t Accounts i = ascending-by-first Accounts (t .accounts) i
-order-tested t Loads i = above-before (byAccountAndDay (t .loads)) (load-above (t .loads)) i
-order-tested t Reservations i = ascending-by-first Reservations (t .reservations) i
+order-tested t table i = above-before (rowAbove table (wordsOf t table)) (above-tested t table) i
 
-link-tested : (t : Tables) (table : Table) (i : ℕ) → Tests (Linked t table i) (rowUnlinked (t .zones) (t .owners) (t .accounts) table (wordsOf t table) i)
+link-tested : (t : Tables) (table : Table) (i : ℕ) → Tests (Linked t table i) (rowUnlinked t table i)
 link-tested t Zones i = no-rule
 link-tested t Owners i = known Zones (t .zones) (ownerZone (t .owners) i)
 link-tested t Units i = both (known Owners (t .owners) (unitOwner (t .units) i)) (known Zones (t .zones) (unitZone (t .units) i))
@@ -156,7 +147,7 @@ pair-tested t Loads i = no-rule
 pair-tested t Reservations i = no-rule
 
 pub row-ruled : (days : ℕ) (t : Tables) (table : Table) (i : ℕ) → Ruling days t table i (rowOf days t table i)
-unfolding rowIn
+unfolding rowOf
 row-ruled days t table i =
     ruled days t table i (range-tested days t table i) (order-tested t table i) (link-tested t table i) (pair-tested t table i)
 
@@ -171,11 +162,11 @@ module _ (days : ℕ) (t : Tables) (table : Table) (i : ℕ) where
   numbered n r o l p (by-pair e g h k out) = rw (r .kept g, o .kept h, l .kept k, faulty p out) (sym e)
 
   pub row-number : (n : ℕ) → FirstBroken days t table i n → rowOf days t table i ≡ n
-  unfolding rowIn
+  unfolding rowOf
   row-number n = numbered n (range-tested days t table i) (order-tested t table i) (link-tested t table i) (pair-tested t table i)
 
   pub row-fine : GoodRow days t table i → rowOf days t table i ≡ 0
-  unfolding rowIn rowNumber
+  unfolding rowOf rowNumber
   row-fine good =
       rw (
         range-tested days t table i .kept (good .in-range),

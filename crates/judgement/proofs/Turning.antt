@@ -1,38 +1,59 @@
 -- The judgement as the code takes it, each look behind the answer so far.
 -- Assumes nothing.
-use mathlib.Core.Path.{_≡_, sym, ap, ap₂, _∙_}
+use mathlib.Core.Path.{_≡_, refl, sym, ap, ap₂, _∙_}
 use mathlib.Core.Logic.{_⊎_, inl, inr, ⊎-elim, _≢_}
-use Prim.Native.Nat.{ℕ, _*_, _/_, _≤_, _<_}
-use native.Mathlib.Nat.{div-lt-iff-lt-mul}
+use mathlib.Core.Bool.{true, false}
+use mathlib.Core.List.{List}
+use Prim.Native.Nat.{ℕ, _+_, _*_, _/_, _≤_, _<_}
+use native.Mathlib.Nat.{div-lt-iff-lt-mul, le-antisymm}
 use native.Mathlib.Omega.{arith}
 use lib.Dec.{ltb}
-use lib.ListN.{length}
 use borrow.Author.Tests.{lt-ltb, le-ltb}
 use Rattle.lists.proofs.Ranks.{lt-or-le}
 use Rattle.answer.specs.declared.Answer.{Answer}
-use Rattle.answer.specs.Numbers.{charges, credits}
-use Rattle.answer.specs.Turns.{accepted, refuse, _then_, first}
-use Rattle.answer.proofs.Turns.{then-first, then-second, then-assoc}
+use Rattle.answer.specs.Numbers.{MONTH, CHARGES, CREDITS}
+use Rattle.answer.specs.Numbers as numbers
+use Rattle.answer.specs.Turns.{accepted, refuse, _then_, turns, first}
+use Rattle.answer.proofs.Turns.{then-first, then-second, then-none, refuse-number, turns-suc}
+use Rattle.month.specs.declared.Month.{Month}
+use Rattle.month.specs.declared.Made.the-variants as calendar
+use Rattle.month.specs.Months.{madeOf}
+use Rattle.month.proofs.Months.{made-good, made-bad}
+use Rattle.tables.specs.declared.Head.{Head}
 use Rattle.tables.specs.declared.Table.{Table}
-use Rattle.tables.specs.declared.Table.the-variants.{Zones, Owners, Units, Accounts, Loads, Reservations}
-use Rattle.tables.specs.Shape.{chargeWidth, creditWidth, rows, Tables, wordsOf}
-use Rattle.tables.specs.Counts.{counted, roomFor, inTurn}
-use Rattle.judgement.specs.Judgement.{headJudged, rowsJudged, judged}
-use Rattle.judgement.proofs.Refusals.{first-stop, first-end}
+use Rattle.tables.specs.declared.Table.the-variants.{Owners, Accounts}
+use Rattle.tables.specs.Shape.{tableCount, tableAt, number, chargeWidth, creditWidth, rows, Tables, wordsOf}
+use Rattle.tables.specs.Counts.{countsInTurn, roomFor, tablesInTurn}
+use Rattle.rows.specs.Rows.{rowOf}
+use Rattle.judgement.specs.declared.Judged.{Judged}
+use Rattle.judgement.specs.declared.Judged.the-variants.{Refused}
+use Rattle.judgement.specs.Judgement.{headLooked, rowsJudged, judged, monthIn, goodOr, judgedAs}
+use Rattle.judgement.proofs.Outcomes.{refused-given}
+use Rattle.judgement.proofs.Refusals.{first-start, first-more, first-stop, first-end}
 
--- six tables behind an answer are the six in turn, behind it
-in-turn-behind : (before : Answer) (f : Table → Answer) → (before then f Zones then f Owners then f Units then f Accounts then f Loads then f Reservations) ≡ (before then inTurn f)
-unfolding inTurn
-in-turn-behind before f =
-    ap (λ a. a then f Units then f Accounts then f Loads then f Reservations) (then-assoc before (f Zones) (f Owners))
-    ∙ ap (λ a. a then f Accounts then f Loads then f Reservations) (then-assoc before (f Zones then f Owners) (f Units))
-    ∙ ap (λ a. a then f Loads then f Reservations) (then-assoc before (f Zones then f Owners then f Units) (f Accounts))
-    ∙ ap (λ a. a then f Reservations) (then-assoc before (f Zones then f Owners then f Units then f Accounts) (f Loads))
-    ∙ then-assoc before (f Zones then f Owners then f Units then f Accounts then f Loads) (f Reservations)
+-- the loop over the tables: the answer so far is that of the first k of them
+pub record TablesPassed (days : ℕ) (t : Tables) (answer : Answer) (k : ℕ) : Type 0 where
+  pub within : k ≤ tableCount
+  pub so-far : answer ≡ turns (λ i. rowsJudged days t (tableAt i)) k
 
--- six tables one after the other, each behind the answer so far
-pub tables-behind : (f : Table → Answer) (before a b c d e r : Answer) → a ≡ (before then f Zones) → b ≡ (a then f Owners) → c ≡ (b then f Units) → d ≡ (c then f Accounts) → e ≡ (d then f Loads) → r ≡ (e then f Reservations) → r ≡ (before then inTurn f)
-tables-behind f before a b c d e r p q s t u v = v ∙ rw (u, t, s, q, p) (in-turn-behind before f)
+pub tables-start : (days : ℕ) (t : Tables) → TablesPassed days t accepted 0
+unfolding turns
+tables-start days t = record { within = omega arith; so-far = refl }
+
+module _ {days : ℕ} {t : Tables} {answer : Answer} {k : ℕ} (passed : TablesPassed days t answer k) where
+  abbrev judgedAt : ℕ → Answer
+  judgedAt i = rowsJudged days t (tableAt i)
+
+  pub tables-more : (a : Answer) (table : Table) → k < tableCount → table ≡ tableAt k → a ≡ (answer then rowsJudged days t table) → TablesPassed days t a (k + 1)
+  tables-more a table h its r = record {
+    within = omega arith;
+    so-far = r ∙ ap₂ (λ b x. b then rowsJudged days t x) (passed .so-far) its ∙ sym (turns-suc judgedAt k);
+  }
+
+  pub tables-end : (before : Answer) → before .number ≡ 0 → tableCount ≤ k → answer ≡ (before then tablesInTurn (rowsJudged days t))
+  unfolding tablesInTurn
+  tables-end before fine h =
+      passed .so-far ∙ ap (turns judgedAt) (le-antisymm (passed .within) h) ∙ sym (then-second before (turns judgedAt tableCount) fine)
 
 -- there are places for fewer rows than there are exactly where there are fewer places than figures
 pub places : (lent width count : ℕ) → 0 < width → ltb (lent / width) count ≡ ltb lent (count * width)
@@ -48,22 +69,70 @@ places lent width count h =
     fewer l (inl m) = absurd (omega (arith, div-lt-iff-lt-mul h .1 m))
     fewer l (inr m) = m
 
--- a table behind an answer: a refusal stays, the first row that is not fine is refused, and where every row is fine nothing is
-module _ (before : Answer) (table : ℕ) (f : ℕ → ℕ) (n : ℕ) where
-  pub rows-kept : before .number ≢ 0 → before ≡ (before then first table f n)
-  rows-kept d = sym (then-first before (first table f n) d)
+-- a refusal stays, whatever stands behind it
+pub refusal-stays : (before behind : Answer) → before .number ≢ 0 → before ≡ (before then behind)
+refusal-stays before behind d = sym (then-first before behind d)
 
-  module _ (fine : before .number ≡ 0) (i : ℕ) (so-far : first table f i ≡ accepted) where
-    pub rows-stop : (found at : ℕ) (r : Answer) → i < n → found ≡ f i → found ≢ 0 → at ≡ table → r ≡ refuse found at i → r ≡ (before then first table f n)
+-- the loop over the n rows of a table: those before row i are fine
+pub record RowsPassed (days : ℕ) (t : Tables) (table : Table) (n i : ℕ) : Type 0 where
+  pub all : n ≡ rows table (wordsOf t table)
+  pub within : i ≤ n
+  pub fine : first (number table) (rowOf days t table) i ≡ accepted
+
+pub rows-start : (days : ℕ) (t : Tables) (table : Table) (words : List ℕ) (n : ℕ) → words ≡ wordsOf t table → n ≡ rows table words → RowsPassed days t table n 0
+rows-start days t table words n w e =
+    record { all = e ∙ ap (rows table) w; within = omega arith; fine = first-start (number table) (rowOf days t table) }
+
+module _ {days : ℕ} {t : Tables} {table : Table} {n i : ℕ} (passed : RowsPassed days t table n i) where
+  pub is-row : i < n → i < rows table (wordsOf t table)
+  is-row h = omega (arith, passed .all)
+
+  pub rows-more : (found : ℕ) → i < n → found ≡ rowOf days t table i → found ≡ 0 → RowsPassed days t table n (i + 1)
+  rows-more found h e z = record {
+    all = passed .all;
+    within = omega arith;
+    fine = first-more (number table) (rowOf days t table) i (passed .fine) (sym e ∙ z);
+  }
+
+  -- behind an answer that refuses nothing, the first row that is not fine is refused, and where every row is fine nothing is
+  module _ (before : Answer) (unrefused : before .number ≡ 0) where
+    pub rows-stop : (found at : ℕ) (r : Answer) → i < n → found ≡ rowOf days t table i → found ≢ 0 → at ≡ number table → r ≡ refuse found at i
+        → r ≡ (before then rowsJudged days t table)
+    unfolding rowsJudged
     rows-stop found at r h e bad k q =
         q
         ∙ ap₂ (λ m a. refuse m a i) e k
-        ∙ sym (first-stop table f n i h so-far (λ z. bad (e ∙ z)))
-        ∙ sym (then-second before (first table f n) fine)
+        ∙ sym (first-stop (number table) (rowOf days t table) _ i (is-row h) (passed .fine) (λ z. bad (e ∙ z)))
+        ∙ sym (then-second before _ unrefused)
 
-    pub rows-end : i ≤ n → n ≤ i → accepted ≡ (before then first table f n)
-    rows-end h k = sym (first-end table f n i h k so-far) ∙ sym (then-second before (first table f n) fine)
+    pub rows-end : n ≤ i → accepted ≡ (before then rowsJudged days t table)
+    unfolding rowsJudged
+    rows-end h =
+        let most : i ≤ rows table (wordsOf t table) = omega (arith, passed .all, passed .within) in
+        let least : rows table (wordsOf t table) ≤ i = omega (arith, passed .all) in
+        sym (first-end (number table) (rowOf days t table) _ i most least (passed .fine)) ∙ sym (then-second before _ unrefused)
 
-pub judged-in-turn : (month days nonzone : ℕ) (t : Tables) (lentCharges lentCredits : ℕ) (counts room head r : Answer) → counts ≡ inTurn (λ table. counted table (length (wordsOf t table))) → room ≡ (counts then roomFor charges (rows Accounts (t .accounts) * chargeWidth) lentCharges then roomFor credits (rows Owners (t .owners) * creditWidth) lentCredits) → head ≡ (room then headJudged month days nonzone) → r ≡ (head then inTurn (rowsJudged days t)) → r ≡ judged month days nonzone t lentCharges lentCredits
-unfolding judged
-judged-in-turn month days nonzone t lentCharges lentCredits counts room head r c o h e = e ∙ rw (h, o, c)
+-- where there is no month, MONTH is refused
+no-month : (nonzone : ℕ) → headLooked true nonzone .number ≢ 0
+unfolding headLooked
+no-month nonzone z = omega (arith, refuse-number MONTH numbers.HEAD 0)
+
+module _ (head : Head) (t : Tables) (lentCharges lentCredits : ℕ) (counts room : Answer) (counted : counts ≡ countsInTurn t)
+    (roomy : room ≡ (counts then roomFor CHARGES (rows Accounts (t .accounts) * chargeWidth) lentCharges then roomFor CREDITS (rows Owners (t .owners) * creditWidth) lentCredits)) where
+  -- where there is a month, the tables come behind the head ..
+  pub month-made : (month : Month) (frame a : Answer) (r : Judged) → madeOf (head .month) (head .days) ≡ calendar.Good month → frame ≡ (room then headLooked false (head .nonzone))
+      → a ≡ (frame then tablesInTurn (rowsJudged (month .days) t)) → r ≡ goodOr month a → r ≡ judgedAs head t lentCharges lentCredits
+  unfolding judged
+  month-made month frame a r made h e g =
+      let its = made-good (head .month) (head .days) month made in
+      g ∙ ap₂ goodOr (its .1) (e ∙ rw (h, roomy, counted, its .1, its .0))
+
+  -- .. and where there is none, MONTH or a refusal before it is the answer
+  pub none-made : (a : Answer) (r : Judged) → madeOf (head .month) (head .days) ≡ calendar.Bad → a ≡ (room then headLooked true (head .nonzone)) → r ≡ Refused a
+      → r ≡ judgedAs head t lentCharges lentCredits
+  unfolding judged
+  none-made a r made h g =
+      let bad : a .number ≢ 0 = λ z. no-month (head .nonzone) (then-none room (headLooked true (head .nonzone)) (ap (λ (b : Answer). b .number) (sym h) ∙ z) .1) in
+      g
+      ∙ sym (refused-given (monthIn head) a bad)
+      ∙ ap (goodOr (monthIn head)) (refusal-stays a (tablesInTurn (rowsJudged (head .days) t)) bad ∙ rw (h, roomy, counted, made-bad (head .month) (head .days) made))

@@ -3,9 +3,10 @@
 use mathlib.Core.Path.{_≡_}
 use Prim.Native.Nat.{ℕ}
 use Rattle.lists.proofs.Unique.{one-answer}
-use Rattle.answer.specs.declared.Answer.{Answer}
+use Rattle.tables.specs.declared.Head.{Head}
 use Rattle.tables.specs.Shape.{Tables}
-use Rattle.judgement.specs.Judgement.{judged}
+use Rattle.judgement.specs.declared.Judged.{Judged}
+use Rattle.judgement.specs.Judgement.{judgedAs}
 
-pub judge-unique : (month days nonzone : ℕ) (t : Tables) (charges credits : ℕ) (r s : Answer) → r ≡ judged month days nonzone t charges credits → s ≡ judged month days nonzone t charges credits → r ≡ s
-judge-unique month days nonzone t charges credits r s = one-answer _ r s
+pub judge-unique : (head : Head) (t : Tables) (charges credits : ℕ) (r s : Judged) → r ≡ judgedAs head t charges credits → s ≡ judgedAs head t charges credits → r ≡ s
+judge-unique head t charges credits r s = one-answer _ r s

@@ -1,16 +1,16 @@
 -- What a good month is, without any order of looking: its tables and its head. Its divisions can still be refused.
 -- Assumes nothing.
 use mathlib.Core.Path.{_≡_}
-use mathlib.Core.Logic.{_⊎_, _≢_}
-use mathlib.Core.Bool.{true}
+use mathlib.Core.Logic.{_≢_}
 use mathlib.Core.List.{List}
 use Prim.Native.Nat.{ℕ, _+_, _*_, _≤_, _<_}
-use Rattle.month.specs.Limits.{mostRate, mostAnnual, mostLoad, mostEnergy}
-use Rattle.month.specs.Months.{isMonth}
+use Rattle.month.specs.Limits.{mostRate, mostAnnual, mostLoad, mostEnergy, lastZone, lastOwner, lastUnit, lastAccount, lastCustomer, blackStart, reactive, mostReserve}
+use Rattle.month.specs.Calendar.{InCalendar}
+use Rattle.tables.specs.declared.Head.{Head}
 use Rattle.tables.specs.declared.Table.{Table}
 use Rattle.tables.specs.declared.Table.the-variants.{Zones, Owners, Units, Accounts, Loads, Reservations}
-use Rattle.tables.specs.Shape.{chargeWidth, creditWidth, rows, Tables, wordsOf}
-use Rattle.tables.specs.Counts.{Counted}
+use Rattle.tables.specs.Shape.{keyColumns, chargeWidth, creditWidth, rows, Tables, wordsOf}
+use Rattle.tables.specs.Counts.{GoodCount}
 use Rattle.tables.specs.Columns.{
   entry,
   zoneNumber,
@@ -34,7 +34,6 @@ use Rattle.tables.specs.Columns.{
   reservationReserved,
   reservationCurtailed,
 }
-use Rattle.tables.specs.Limits.{lastZone, lastOwner, lastUnit, lastAccount, lastCustomer, blackStart, reactive, mostReserve}
 
 -- x is low..high
 pub record Within (low high x : ℕ) : Type 0 where
@@ -84,24 +83,13 @@ InRange days t Accounts i = AccountInRange (t .accounts) i
 InRange days t Loads i = LoadInRange days (t .loads) i
 InRange days t Reservations i = ReservationInRange (t .reservations) i
 
--- row i stands above row j, the lower row being named first: by its first entry ..
-abbrev pub FirstAbove : Table → List ℕ → ℕ → ℕ → Type 0
-FirstAbove table words j i = entry table 0 words j < entry table 0 words i
-
--- .. and a load "by account, then day"
-abbrev pub LoadAbove : List ℕ → ℕ → ℕ → Type 0
-LoadAbove loads j i =
-    (loadAccount loads j < loadAccount loads i)
-    ⊎ ((loadAccount loads j ≡ loadAccount loads i) × (loadDay loads j < loadDay loads i))
-
--- `Above t table j i`: row i of a table stands above its row j
-abbrev pub Above : Tables → Table → ℕ → ℕ → Type 0
-Above t Zones = FirstAbove Zones (t .zones)
-Above t Owners = FirstAbove Owners (t .owners)
-Above t Units = FirstAbove Units (t .units)
-Above t Accounts = FirstAbove Accounts (t .accounts)
-Above t Loads = LoadAbove (t .loads)
-Above t Reservations = FirstAbove Reservations (t .reservations)
+-- row i of a table stands above its row j, the lower row being named first: some column of the key is larger, and the columns before
+-- it are the same. "Zones, owners, units, accounts and reservations strictly ascend by their first entry, loads by account, then day"
+pub record Above (t : Tables) (table : Table) (j i : ℕ) : Type 0 where
+  pub column : ℕ
+  pub in-key : column < keyColumns table
+  pub same-before : (c : ℕ) → c < column → entry table c (wordsOf t table) j ≡ entry table c (wordsOf t table) i
+  pub larger : entry table column (wordsOf t table) j < entry table column (wordsOf t table) i
 
 -- a table has a row with x as its first entry
 abbrev pub Known : Table → List ℕ → ℕ → Type 0
@@ -148,12 +136,12 @@ pub record Roomy (t : Tables) (lentCharges lentCredits : ℕ) : Type 0 where
   pub credits-fit : rows Owners (t .owners) * creditWidth ≤ lentCredits
 
 -- what is right before any row is looked at
-pub record GoodFrame (month days nonzone : ℕ) (t : Tables) (lentCharges lentCredits : ℕ) : Type 0 where
-  pub counted : (table : Table) → Counted t table
+pub record GoodFrame (head : Head) (t : Tables) (lentCharges lentCredits : ℕ) : Type 0 where
+  pub counted : (table : Table) → GoodCount t table
   pub roomy : Roomy t lentCharges lentCredits
-  pub month-known : isMonth month days ≡ true
-  pub nonzone-in-range : Within 0 mostRate nonzone
+  pub month-known : InCalendar (head .month) (head .days)
+  pub nonzone-in-range : Within 0 mostRate (head .nonzone)
 
-pub record GoodMonth (month days nonzone : ℕ) (t : Tables) (lentCharges lentCredits : ℕ) : Type 0 where
-  pub frame : GoodFrame month days nonzone t lentCharges lentCredits
-  pub tables : (table : Table) → GoodTable days t table
+pub record GoodMonth (head : Head) (t : Tables) (lentCharges lentCredits : ℕ) : Type 0 where
+  pub frame : GoodFrame head t lentCharges lentCredits
+  pub tables : (table : Table) → GoodTable (head .days) t table

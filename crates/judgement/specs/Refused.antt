@@ -1,17 +1,18 @@
 -- What a refusal says: which rule is broken where, and that all that is looked at earlier is right.
 -- Assumes nothing.
 use mathlib.Core.Path.{_≡_}
-use mathlib.Core.Bool.{false, true}
 use Prim.Native.Nat.{ℕ, _*_, _<_, _≤_}
 use Rattle.answer.specs.declared.Answer.{Answer}
-use Rattle.answer.specs.Numbers.{COUNT, ROOM, MONTH, RANGE, ORDER, LINK, PAIR, head, charges, credits}
+use Rattle.answer.specs.Numbers.{COUNT, ROOM, MONTH, RANGE, ORDER, LINK, PAIR, CHARGES, CREDITS}
+use Rattle.answer.specs.Numbers as numbers
 use Rattle.answer.specs.Turns.{refusal}
 use Rattle.month.specs.Limits.{mostRate}
-use Rattle.month.specs.Months.{isMonth}
+use Rattle.month.specs.Calendar.{InCalendar}
+use Rattle.tables.specs.declared.Head.{Head}
 use Rattle.tables.specs.declared.Table.{Table}
 use Rattle.tables.specs.declared.Table.the-variants.{Owners, Accounts}
 use Rattle.tables.specs.Shape.{number, chargeWidth, creditWidth, rows, Tables, wordsOf}
-use Rattle.tables.specs.Counts.{Counted}
+use Rattle.tables.specs.Counts.{GoodCount}
 use Rattle.judgement.specs.Good.{InRange, Ascending, Linked, Unpaired, GoodRow, GoodTable, Roomy, GoodFrame}
 
 -- "in a row RANGE, ORDER, LINK, PAIR": n is the number of the first of row i's rules that is broken
@@ -22,45 +23,45 @@ module _ (days : ℕ) (t : Tables) (table : Table) (i n : ℕ) where
     by-link : n ≡ LINK → InRange days t table i → Ascending t table i → ¬ Linked t table i → FirstBroken
     by-pair : n ≡ PAIR → InRange days t table i → Ascending t table i → Linked t table i → ¬ Unpaired t table i → FirstBroken
 
-module _ (month days nonzone : ℕ) (t : Tables) (lentCharges lentCredits : ℕ) where
+module _ (head : Head) (t : Tables) (lentCharges lentCredits : ℕ) where
   -- row i of a table is the first that is not good, in the first table that is not
   pub record RowRefused (table : Table) (i n : ℕ) : Type 0 where
-    pub frame : GoodFrame month days nonzone t lentCharges lentCredits
-    pub earlier-tables : (earlier : Table) → number earlier < number table → GoodTable days t earlier
+    pub frame : GoodFrame head t lentCharges lentCredits
+    pub earlier-tables : (earlier : Table) → number earlier < number table → GoodTable (head .days) t earlier
     pub is-row : i < rows table (wordsOf t table)
-    pub earlier-rows : (j : ℕ) → j < i → GoodRow days t table j
-    pub broken : FirstBroken days t table i n
+    pub earlier-rows : (j : ℕ) → j < i → GoodRow (head .days) t table j
+    pub broken : FirstBroken (head .days) t table i n
 
   -- the answer a refuses, and why; "row from 0; 0 for COUNT, ROOM and the head"
   pub data Refused (a : Answer) : Type 0 where
     by-count :
         (table : Table)
         → a ≡ refusal COUNT (number table) 0
-        → ((earlier : Table) → number earlier < number table → Counted t earlier)
-        → ¬ Counted t table
+        → ((earlier : Table) → number earlier < number table → GoodCount t earlier)
+        → ¬ GoodCount t table
         → Refused a
     by-charges :
-        a ≡ refusal ROOM charges 0
-        → ((table : Table) → Counted t table)
+        a ≡ refusal ROOM CHARGES 0
+        → ((table : Table) → GoodCount t table)
         → lentCharges < rows Accounts (t .accounts) * chargeWidth
         → Refused a
     by-credits :
-        a ≡ refusal ROOM credits 0
-        → ((table : Table) → Counted t table)
+        a ≡ refusal ROOM CREDITS 0
+        → ((table : Table) → GoodCount t table)
         → rows Accounts (t .accounts) * chargeWidth ≤ lentCharges
         → lentCredits < rows Owners (t .owners) * creditWidth
         → Refused a
     by-month :
-        a ≡ refusal MONTH head 0
-        → ((table : Table) → Counted t table)
+        a ≡ refusal MONTH numbers.HEAD 0
+        → ((table : Table) → GoodCount t table)
         → Roomy t lentCharges lentCredits
-        → isMonth month days ≡ false
+        → ¬ InCalendar (head .month) (head .days)
         → Refused a
     by-nonzone :
-        a ≡ refusal RANGE head 0
-        → ((table : Table) → Counted t table)
+        a ≡ refusal RANGE numbers.HEAD 0
+        → ((table : Table) → GoodCount t table)
         → Roomy t lentCharges lentCredits
-        → isMonth month days ≡ true
-        → mostRate < nonzone
+        → InCalendar (head .month) (head .days)
+        → mostRate < head .nonzone
         → Refused a
     by-row : (table : Table) (i n : ℕ) → a ≡ refusal n (number table) i → RowRefused table i n → Refused a

@@ -14,7 +14,7 @@ use Rattle.lists.specs.Sums.{sumTo, at, every}
 use Rattle.lists.proofs.Sums.{every-at, either}
 use Rattle.month.specs.declared.Month.{Month}
 use Rattle.month.specs.declared.Made.the-variants.{Good, Bad}
-use Rattle.month.specs.Limits.{mostDays}
+use Rattle.month.specs.Quantities.{mostDays}
 use Rattle.month.specs.Months.{months, lengths, february, leapLength, isLength, isMonth, madeOf, through, twelfth}
 
 picked : (t : Bool) (a m : Month) → cond t (Good a) Bad ≡ Good m → (t ≡ true) × (m ≡ a)

@@ -1,6 +1,24 @@
--- The largest entries of the tables that a month's arithmetic is done on, and what an account's month can add up to.
+-- The limits of a month's entries, in the order of the paper's list of tables and of the paragraph below it.
 -- Assumes nothing.
-use Prim.Native.Nat.{ℕ, _*_, _^_}
+use Prim.Native.Nat.{ℕ, _^_}
+use mathlib.Core.Bool.{cond}
+use lib.Dec.{eqb}
+
+-- "zone 1..999", "owner 1..9999", "unit 1..9999", "account 1..9999", "customer 1..10^9"
+abbrev pub lastZone : ℕ
+lastZone = 999
+
+abbrev pub lastOwner : ℕ
+lastOwner = 9999
+
+abbrev pub lastUnit : ℕ
+lastUnit = 9999
+
+abbrev pub lastAccount : ℕ
+lastAccount = 9999
+
+abbrev pub lastCustomer : ℕ
+lastCustomer = 10 ^ 9
 
 -- "Rates are cents per MW-year, 0..10^8"
 abbrev pub mostRate : ℕ
@@ -10,6 +28,20 @@ mostRate = 10 ^ 8
 abbrev pub mostAnnual : ℕ
 mostAnnual = 10 ^ 12
 
+-- "Service is 1 black start or 2 reactive"
+abbrev pub blackStart : ℕ
+blackStart = 1
+
+abbrev pub reactive : ℕ
+reactive = 2
+
+-- "The reserve credit is 0..10^10, and 0 for reactive"
+abbrev pub mostReserve : ℕ
+mostReserve = 10 ^ 10
+
+abbrev pub reserveLimit : ℕ → ℕ
+reserveLimit service = cond (eqb service reactive) 0 mostReserve
+
 -- "Peak load is tenths of a MW on one day, 0..10^6"
 abbrev pub mostLoad : ℕ
 mostLoad = 10 ^ 6
@@ -17,11 +49,3 @@ mostLoad = 10 ^ 6
 -- "reserved and curtailed energy is tenths of a MWh in the month, 0..10^9"
 abbrev pub mostEnergy : ℕ
 mostEnergy = 10 ^ 9
-
--- "A day is 1..days": no month has more than 31
-abbrev pub mostDays : ℕ
-mostDays = 31
-
--- "the sum of its month's contributions", one for each day
-abbrev pub mostContributions : ℕ
-mostContributions = mostDays * mostLoad

@@ -39,14 +39,14 @@ unfoldable pub madeOf : ℕ → ℕ → Made
 madeOf month days = cond (isMonth month days) (Good (record { number = month; days = days })) Bad
 
 -- the paper's number of what was made: 0, or MONTH
-abbrev pub numberOf : Made → ℕ
-numberOf (Good m) = 0
-numberOf Bad = MONTH
+abbrev pub madeNumber : Made → ℕ
+madeNumber (Good m) = 0
+madeNumber Bad = MONTH
 
 -- the month that was made; none is zeros
-abbrev pub monthOf : Made → Month
-monthOf (Good m) = m
-monthOf Bad = record { number = 0; days = 0 }
+abbrev pub madeMonth : Made → Month
+madeMonth (Good m) = m
+madeMonth Bad = record { number = 0; days = 0 }
 
 -- "the whole part of annual times m over 12": what the months 1, 2, .. m have together
 unfoldable pub through : ℕ → ℕ → ℕ

@@ -1,16 +1,4 @@
-pub mod RowLaws
-pub mod Forms
-pub mod RowWalks
-pub mod LineWalks
-pub mod Judging
-pub mod Filling
-pub mod Rooms
-pub mod Pieces
-pub mod Contents
-pub mod Refusals
-pub mod Reasons
 pub mod ReadCalls
 pub mod WriteCalls
 pub mod RoundTrips
 pub mod Promises
-pub mod Unique

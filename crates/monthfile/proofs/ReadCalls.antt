@@ -3,66 +3,48 @@
 -- Assumes nothing.
 use mathlib.Core.Path.{_≡_, refl, sym, ap, subst, _∙_}
 use mathlib.Core.Logic.{⊎-elim, _≢_, _↔_}
-use mathlib.Core.List.{List, [], _∷_, _++_}
-use Prim.Native.Nat.{ℕ, _+_, _*_, _≤_, _<_}
+use mathlib.Core.List.{List, []}
+use Prim.Native.Nat.{ℕ, _*_, _≤_, _<_}
 use native.Mathlib.Nat.{le-trans, le-of-eq, mul-le-mul-right}
 use native.Mathlib.Omega.{arith}
-use lib.ListN.{length, drop}
+use lib.ListN.{length}
 use borrow.Author.Tests.{eq-eqb, ne-eqb}
 use Rattle.answer.specs.declared.Answer.{Answer}
 use Rattle.answer.specs.Numbers.{COUNT, ROOM, TEXT}
 use Rattle.answer.specs.Turns.{accepted, refusal}
 use Rattle.tables.specs.declared.Table.{Table}
-use Rattle.tables.specs.declared.Table.the-variants.{Zones, Owners, Units, Accounts, Loads, Reservations}
-use Rattle.tables.specs.Shape.{number, width, limit, Tables, wordsOf}
+use Rattle.tables.specs.Shape.{number, tableAt, placeOf, width, limit, Tables, wordsOf}
 use Rattle.tables.specs.Counts.{roomFor}
+use Rattle.tables.proofs.Places.{place-below, place-at}
 use Rattle.tables.proofs.Tests.{at-least}
 use Rattle.tables.proofs.Stages.{Stage, passed, stopped, first-broken, look-stage, in-turn-stage}
 use Rattle.text.specs.Places.{stored}
-use Rattle.text.proofs.Stores.{stored-is}
-use Rattle.monthfile.specs.declared.Reading.{Reading}
-use Rattle.monthfile.specs.Form.{monthForm, kindOf}
-use Rattle.monthfile.specs.Reading.{Outcome, got, refused, Rows, Contents, reading}
-use Rattle.monthfile.specs.Writing.{fileText, Fits, AllFit, Within}
-use Rattle.monthfile.specs.Calls.{nth, placeOf, fullSize, readRoom, readOutcome, readAnswer, tablesIn, filled, atFront, Reads}
-use Rattle.monthfile.specs.Refused.{Full, AtMisfit, RowTooMany, ReadRefused, by-room, by-text, by-count}
-use Rattle.monthfile.proofs.Forms.{FileBack, file-back}
-use Rattle.monthfile.proofs.Contents.{month-sound, written-then-read}
-use Rattle.monthfile.proofs.Rooms.{nothing-filled}
-use Rattle.monthfile.proofs.Refusals.{AtLimit, reading-refused, table-over}
-use Rattle.monthfile.proofs.Reasons.{misfit-refused, limit-refused}
+use Rattle.text.proofs.Stores.{stored-in-front}
+use Rattle.fileform.specs.Form.{Kind, kindOf, monthForm}
+use Rattle.fileform.specs.Reading.{Outcome, got, refused, Rows, nth, Contents, reading}
+use Rattle.fileform.specs.Writing.{fileText, Fits, ContentsFit}
+use Rattle.fileform.specs.Refused.{AtMisfit, RowTooMany}
+use Rattle.fileform.proofs.Each.{words-by}
+use Rattle.fileform.proofs.Forms.{kindAt, FileBack, file-back}
+use Rattle.fileform.proofs.Contents.{month-sound, kind-placed, kind-at, table-fits, written-then-read}
+use Rattle.fileform.proofs.Refusals.{AtLimit, reading-refused}
+use Rattle.fileform.proofs.Reasons.{misfit-refused, limit-refused}
+use Rattle.fileread.specs.declared.Reading.{Reading}
+use Rattle.fileread.specs.Calls.{fullSize, readRoom, readOutcome, readAnswer, tablesIn, filled, Reads}
+use Rattle.fileread.proofs.Parts.{nothing-filled}
+use Rattle.monthfile.specs.Front.{atFront}
+use Rattle.monthfile.specs.Refused.{Full, ReadRefused, by-room, by-text, by-count}
 
--- entries stored at the front of a lent list
-pub stored-front : (lent entries : List ℕ) → length entries ≤ length lent → stored lent 0 entries ≡ atFront entries lent
-stored-front lent entries h =
-    let fits : 0 + length entries ≤ length lent = omega arith in
-    let size : 0 + length entries ≡ length entries = omega arith in
-    stored-is lent 0 entries fits ∙ ap (λ k. entries ++ drop k lent) size
-
--- the words of one of the filled tables
-words-filled : (lent : Tables) (ts : List Rows) (table : Table) → wordsOf (filled lent ts) table ≡ stored (wordsOf lent table) 0 (nth ts (placeOf table) .words)
-words-filled lent ts Zones = refl
-words-filled lent ts Owners = refl
-words-filled lent ts Units = refl
-words-filled lent ts Accounts = refl
-words-filled lent ts Loads = refl
-words-filled lent ts Reservations = refl
-
--- a table of contents within the limits
-pub table-fits : (ts : List Rows) → AllFit (monthForm .kinds) ts → (table : Table) → Fits (kindOf table) (nth ts (placeOf table))
-table-fits (a ∷ b ∷ c ∷ d ∷ e ∷ f ∷ []) h Zones = h .0
-table-fits (a ∷ b ∷ c ∷ d ∷ e ∷ f ∷ []) h Owners = h .1 .0
-table-fits (a ∷ b ∷ c ∷ d ∷ e ∷ f ∷ []) h Units = h .1 .1 .0
-table-fits (a ∷ b ∷ c ∷ d ∷ e ∷ f ∷ []) h Accounts = h .1 .1 .1 .0
-table-fits (a ∷ b ∷ c ∷ d ∷ e ∷ f ∷ []) h Loads = h .1 .1 .1 .1 .0
-table-fits (a ∷ b ∷ c ∷ d ∷ e ∷ f ∷ []) h Reservations = h .1 .1 .1 .1 .1 .0
-table-fits [] h table = absurd h
-table-fits (a ∷ []) h table = absurd (h .1)
-table-fits (a ∷ b ∷ []) h table = absurd (h .1 .1)
-table-fits (a ∷ b ∷ c ∷ []) h table = absurd (h .1 .1 .1)
-table-fits (a ∷ b ∷ c ∷ d ∷ []) h table = absurd (h .1 .1 .1 .1)
-table-fits (a ∷ b ∷ c ∷ d ∷ e ∷ []) h table = absurd (h .1 .1 .1 .1 .1)
-table-fits (a ∷ b ∷ c ∷ d ∷ e ∷ f ∷ g ∷ more) h table = absurd (h .1 .1 .1 .1 .1 .1)
+-- COUNT of one of the tables
+table-over : (text : List ℕ) (a : Answer) → AtLimit monthForm text a
+    → (table : Table) × (a ≡ refusal COUNT (number table) (limit table)) × RowTooMany monthForm (placeOf table) (kindOf table) text
+table-over text a over =
+    let kind : kindAt (monthForm .kinds) (over .k) ≡ kindOf (tableAt (over .k)) = kind-at (over .k) (over .is-kind) in (
+      tableAt (over .k),
+      over .its ∙ ap (λ (k : Kind). refusal COUNT (k .table) (k .limit)) kind,
+      subst (λ p. RowTooMany monthForm p (kindOf (tableAt (over .k))) text) (sym (place-at (over .k) (over .is-kind)))
+          (subst (λ k. RowTooMany monthForm (over .k) k text) kind (over .why)),
+    )
 
 -- rows within the limits fit in a table of full size
 fits-front : (table : Table) (t : Rows) → Fits (kindOf table) t → {lent : ℕ} → limit table * width table ≤ lent → length (t .words) ≤ lent
@@ -133,12 +115,10 @@ module _ (text : List ℕ) (lent : Tables) where
   -- a text with a row too many
   full-table : (table : Table) → RowTooMany monthForm (placeOf table) (kindOf table) text
       → reading monthForm text ≡ refused (refusal COUNT (number table) (limit table))
-  full-table Zones = limit-refused monthForm month-sound text 0 (omega arith)
-  full-table Owners = limit-refused monthForm month-sound text 1 (omega arith)
-  full-table Units = limit-refused monthForm month-sound text 2 (omega arith)
-  full-table Accounts = limit-refused monthForm month-sound text 3 (omega arith)
-  full-table Loads = limit-refused monthForm month-sound text 4 (omega arith)
-  full-table Reservations = limit-refused monthForm month-sound text 5 (omega arith)
+  full-table table why =
+      limit-refused monthForm month-sound text (placeOf table) (place-below table)
+      (subst (λ k. RowTooMany monthForm (placeOf table) k text) (sym (kind-placed table)) why)
+      ∙ ap (λ (k : Kind). refused (refusal COUNT (k .table) (k .limit))) (kind-placed table)
 
   -- whatever reason is so, is answered
   outcome-why : (a : Answer) → ReadRefused text lent a → readOutcome text lent ≡ refused a
@@ -173,7 +153,7 @@ module _ (text : List ℕ) (lent : Tables) where
 
     -- an accepted read has each table's rows at its front, and behind them what was lent
     accepted-by : (o : Outcome Contents) → Way o → r ≡ readAnswer o → after ≡ filled lent (tablesIn o) → r .answer .number ≡ 0
-        → (c : Contents) × Within monthForm c × (text ≡ fileText monthForm c) × (r ≡ readAnswer (got c []))
+        → (c : Contents) × ContentsFit monthForm c × (text ≡ fileText monthForm c) × (r ≡ readAnswer (got c []))
         × ((table : Table) → wordsOf after table ≡ atFront (nth (c .tables) (placeOf table) .words) (wordsOf lent table))
     accepted-by (refused a) w e s z = absurd (refused-number a w (ap (λ (h : Reading). h .answer .number) (sym e) ∙ z))
     accepted-by (got c rest) w e s z =
@@ -184,16 +164,16 @@ module _ (text : List ℕ) (lent : Tables) where
           back .within,
           back .written,
           e,
-          λ table. ap (λ k. wordsOf k table) s ∙ words-filled lent (c .tables) table
-              ∙ stored-front (wordsOf lent table) (nth (c .tables) (placeOf table) .words) (front table),
+          λ table. ap (λ k. wordsOf k table) s ∙ words-by (λ u. stored (wordsOf lent u) 0 (nth (c .tables) (placeOf u) .words)) table
+              ∙ stored-in-front (wordsOf lent table) (nth (c .tables) (placeOf table) .words) (front table),
         )
 
     pub read-accepted : r .answer .number ≡ 0
-        → (c : Contents) × Within monthForm c × (text ≡ fileText monthForm c) × (r ≡ readAnswer (got c []))
+        → (c : Contents) × ContentsFit monthForm c × (text ≡ fileText monthForm c) × (r ≡ readAnswer (got c []))
         × ((table : Table) → wordsOf after table ≡ atFront (nth (c .tables) (placeOf table) .words) (wordsOf lent table))
     read-accepted z = accepted-by (readOutcome text lent) way (reads .answers) (reads .stores) z
 
     -- the text of contents within the limits, read into tables of full size, is accepted with these contents
-    pub good-read : ((table : Table) → Full lent table) → (c : Contents) → Within monthForm c → text ≡ fileText monthForm c → r ≡ readAnswer (got c [])
+    pub good-read : ((table : Table) → Full lent table) → (c : Contents) → ContentsFit monthForm c → text ≡ fileText monthForm c → r ≡ readAnswer (got c [])
     good-read full c within e =
         reads .answers ∙ ap readAnswer (outcome-full full ∙ ap (reading monthForm) e ∙ written-then-read c within)

@@ -7,25 +7,31 @@ use native.Mathlib.Nat.{div-add-mod, le-trans, le-of-eq, mul-div-left, mul-mod-l
 use native.Mathlib.Omega.{arith}
 use lib.ListN.{length, take, drop, length-append}
 use lib.Seq.{take-append-seam, take-at}
-use Rattle.lists.specs.Sums.{at}
 use Rattle.answer.specs.declared.Answer.{Answer}
 use Rattle.answer.specs.Turns.{accepted}
+use Rattle.tables.specs.declared.Head.{Head}
 use Rattle.tables.specs.declared.Table.{Table}
 use Rattle.tables.specs.declared.Table.the-variants.{Zones, Owners, Units, Accounts, Loads, Reservations}
-use Rattle.tables.specs.Shape.{width, Tables, wordsOf}
-use Rattle.tables.specs.Counts.{Counted}
+use Rattle.tables.specs.Shape.{placeOf, width, Tables, wordsOf}
+use Rattle.tables.specs.Counts.{GoodCount}
 use Rattle.tables.proofs.Places.{width-pos}
 use Rattle.tables.proofs.Stages.{passed, stopped}
 use Rattle.text.specs.Numbers.{Below}
-use Rattle.monthfile.specs.declared.Reading.{Reading}
-use Rattle.monthfile.specs.declared.Written.{Written}
-use Rattle.monthfile.specs.Form.{monthForm, kindOf}
-use Rattle.monthfile.specs.Reading.{got, Rows, Contents, reading}
-use Rattle.monthfile.specs.Writing.{fileText, Fits, AllFit, Within}
-use Rattle.monthfile.specs.Calls.{contentsOf, monthText, rowsOf, allRows, nth, placeOf, readAnswer, atFront, Reads, Writes, countIn, front, rowsRead}
+use Rattle.fileform.specs.Each.{inOrder}
+use Rattle.fileform.specs.Form.{kindOf, monthForm}
+use Rattle.fileform.specs.Reading.{got, Rows, noRows, nth, Contents, reading}
+use Rattle.fileform.specs.Writing.{fileText, Fits, ContentsFit}
+use Rattle.fileform.proofs.Each.{words-by, order-at, by-places}
+use Rattle.fileform.proofs.Forms.{all-fit-length}
+use Rattle.fileform.proofs.Contents.{table-fits, written-then-read}
+use Rattle.fileread.specs.declared.Reading.{Reading}
+use Rattle.fileread.specs.Calls.{headRead, readAnswer, Reads, countIn, wordsRead, tablesRead}
+use Rattle.fileread.proofs.Parts.{at-counts}
+use Rattle.filewrite.specs.declared.Written.{Written}
+use Rattle.filewrite.specs.Calls.{numbersOf, rowsOf, allRows, contentsOf, monthText, Writes}
+use Rattle.monthfile.specs.Front.{atFront}
 use Rattle.monthfile.specs.Refused.{Full}
-use Rattle.monthfile.proofs.Contents.{written-then-read}
-use Rattle.monthfile.proofs.ReadCalls.{table-fits, read-accepted, good-read}
+use Rattle.monthfile.proofs.ReadCalls.{read-accepted, good-read}
 use Rattle.monthfile.proofs.WriteCalls.{WriteLooked, looks, write-accepted, good-write}
 
 -- a table that was read: within its limits, counted, and at the front of the lent words
@@ -33,24 +39,15 @@ pub record TableRead (r : Reading) (after : Tables) (table : Table) (own : Rows)
   pub fits : Fits (kindOf table) own
   pub count-is : countIn r table ≡ own .count
   pub there : countIn r table * width table ≤ length (wordsOf after table)
-  pub front-is : front r after table ≡ own .words
+  pub front-is : wordsRead r after table ≡ own .words
 
 -- a text that was read
 pub record TextRead (text : List ℕ) (r : Reading) (after : Tables) : Type 0 where
   pub contents : Contents
-  pub within : Within monthForm contents
+  pub within : ContentsFit monthForm contents
   pub written : text ≡ fileText monthForm contents
   pub answers : r ≡ readAnswer (got contents [])
   pub table-read : (table : Table) → TableRead r after table (nth (contents .tables) (placeOf table))
-
--- how many rows of a table a text holds, by its place among those of a file
-count-at : (c : Contents) (rest : List ℕ) (table : Table) → countIn (readAnswer (got c rest)) table ≡ nth (c .tables) (placeOf table) .count
-count-at c rest Zones = refl
-count-at c rest Owners = refl
-count-at c rest Units = refl
-count-at c rest Accounts = refl
-count-at c rest Loads = refl
-count-at c rest Reservations = refl
 
 -- rows at the front of lent words
 front-read : (r : Reading) (after : Tables) (table : Table) (own : Rows) (lent : List ℕ) → Fits (kindOf table) own → countIn r table ≡ own .count
@@ -78,35 +75,16 @@ text-read text lent after r reads z =
       table-read =
           λ table.
           front-read r after table (nth (read .0 .tables) (placeOf table)) (wordsOf lent table) (table-fits (read .0 .tables) (read .1 .fit) table)
-          (ap (λ h. countIn h table) (read .3) ∙ count-at (read .0) [] table) (read .4 table);
+          (ap (λ h. countIn h table) (read .3) ∙ at-counts (read .0 .tables) (placeOf table)) (read .4 table);
     }
 
 -- three numbers
-three : (ns : List ℕ) → length ns ≡ 3 → at ns 0 ∷ at ns 1 ∷ at ns 2 ∷ [] ≡ ns
+three : (ns : List ℕ) → length ns ≡ 3 → numbersOf (headRead ns) ≡ ns
 three [] e = absurd (let z : 0 ≡ 3 = e in omega arith)
 three (a ∷ []) e = absurd (let z : 1 ≡ 3 = e in omega arith)
 three (a ∷ b ∷ []) e = absurd (let z : 2 ≡ 3 = e in omega arith)
 three (a ∷ b ∷ c ∷ []) e = refl
 three (a ∷ b ∷ c ∷ d ∷ ns) e = absurd (let z : suc (suc (suc (suc (length ns)))) ≡ 3 = e in omega arith)
-
--- six tables
-six : (ts : List Rows) → AllFit (monthForm .kinds) ts → nth ts 0 ∷ nth ts 1 ∷ nth ts 2 ∷ nth ts 3 ∷ nth ts 4 ∷ nth ts 5 ∷ [] ≡ ts
-six (a ∷ b ∷ c ∷ d ∷ e ∷ f ∷ []) h = refl
-six [] h = absurd h
-six (a ∷ []) h = absurd (h .1)
-six (a ∷ b ∷ []) h = absurd (h .1 .1)
-six (a ∷ b ∷ c ∷ []) h = absurd (h .1 .1 .1)
-six (a ∷ b ∷ c ∷ d ∷ []) h = absurd (h .1 .1 .1 .1)
-six (a ∷ b ∷ c ∷ d ∷ e ∷ []) h = absurd (h .1 .1 .1 .1 .1)
-six (a ∷ b ∷ c ∷ d ∷ e ∷ f ∷ g ∷ more) h = absurd (h .1 .1 .1 .1 .1 .1)
-
-words-of-read : (r : Reading) (after : Tables) (table : Table) → wordsOf (rowsRead r after) table ≡ front r after table
-words-of-read r after Zones = refl
-words-of-read r after Owners = refl
-words-of-read r after Units = refl
-words-of-read r after Accounts = refl
-words-of-read r after Loads = refl
-words-of-read r after Reservations = refl
 
 module _ (text : List ℕ) (r : Reading) (after : Tables) (read : TextRead text r after) where
   module _ (table : Table) where
@@ -117,52 +95,52 @@ module _ (text : List ℕ) (r : Reading) (after : Tables) (read : TextRead text 
     unfolding own
     own-read = read .table-read table
 
-    words-are : wordsOf (rowsRead r after) table ≡ own .words
-    words-are = words-of-read r after table ∙ own-read .front-is
+    words-are : wordsOf (tablesRead r after) table ≡ own .words
+    words-are = words-by (wordsRead r after) table ∙ own-read .front-is
 
-    size-is : length (wordsOf (rowsRead r after) table) ≡ own .count * width table
+    size-is : length (wordsOf (tablesRead r after) table) ≡ own .count * width table
     size-is = ap length words-are ∙ own-read .fits .whole
 
-    count-is : length (wordsOf (rowsRead r after) table) / width table ≡ own .count
+    count-is : length (wordsOf (tablesRead r after) table) / width table ≡ own .count
     count-is = ap (λ n. n / width table) size-is ∙ mul-div-left (own .count) (width-pos table)
 
     -- what was read is whole rows within the limit
-    counted : Counted (rowsRead r after) table
+    counted : GoodCount (tablesRead r after) table
     counted =
         record {
           whole = ap (λ n. n % width table) size-is ∙ mul-mod-left (own .count) (width table);
           few = le-trans (le-of-eq count-is) (own-read .fits .few);
         }
 
-    rows-are : rowsOf table (rowsRead r after) ≡ own
+    rows-are : rowsOf (tablesRead r after) table ≡ own
     rows-are = λ i. record { count = count-is i; words = words-are i }
 
   -- what was read is what the text holds, and its text is the text
-  contents-are : contentsOf (r .month) (r .days) (r .nonzone) (rowsRead r after) ≡ read .contents
+  contents-are : contentsOf (r .head) (tablesRead r after) ≡ read .contents
   unfolding own
   contents-are =
-      let head : r .month ∷ r .days ∷ r .nonzone ∷ [] ≡ read .contents .head =
-      ap (λ (h : Reading). h .month ∷ h .days ∷ h .nonzone ∷ []) (read .answers) ∙ three (read .contents .head) (read .within .one-each) in
-      let tables : allRows (rowsRead r after) ≡ read .contents .tables =
-      (λ i. rows-are Zones i ∷ rows-are Owners i ∷ rows-are Units i ∷ rows-are Accounts i ∷ rows-are Loads i ∷ rows-are Reservations i ∷ [])
-      ∙ six (read .contents .tables) (read .within .fit) in
+      let head : numbersOf (r .head) ≡ read .contents .head =
+      ap (λ (h : Reading). numbersOf (h .head)) (read .answers) ∙ three (read .contents .head) (read .within .one-each) in
+      let tables : allRows (tablesRead r after) ≡ read .contents .tables =
+      (λ i. inOrder (λ table. rows-are table i))
+      ∙ by-places noRows (read .contents .tables) (all-fit-length (monthForm .kinds) (read .contents .tables) (read .within .fit)) in
       λ i. record { head = head i; tables = tables i }
 
-  same-text : monthText (r .month) (r .days) (r .nonzone) (rowsRead r after) ≡ text
+  same-text : monthText (r .head) (tablesRead r after) ≡ text
   same-text = ap (fileText monthForm) contents-are ∙ sym (read .written)
 
-  pub written-again : (out written : List ℕ) (w : Written) → Writes (r .month) (r .days) (r .nonzone) (rowsRead r after) out written w
+  pub written-again : (out written : List ℕ) (w : Written) → Writes (r .head) (tablesRead r after) out written w
       → length text ≤ length out → (w ≡ record { answer = accepted; length = length text }) × (written ≡ atFront text out)
   written-again out written w writes room =
       let answer : w .answer ≡ accepted =
-      good-write (r .month) (r .days) (r .nonzone) (rowsRead r after) out written w writes counted (le-trans (le-of-eq (ap length same-text)) room) in
-      let wrote = write-accepted (r .month) (r .days) (r .nonzone) (rowsRead r after) out written w writes (ap (λ (a : Answer). a .number) answer) in
+      good-write (r .head) (tablesRead r after) out written w writes counted (le-trans (le-of-eq (ap length same-text)) room) in
+      let wrote = write-accepted (r .head) (tablesRead r after) out written w writes (ap (λ (a : Answer). a .number) answer) in
       let size : w .length ≡ length text = wrote .0 ∙ ap length same-text in
       ((λ i. record { answer = answer i; length = size i }), wrote .1 ∙ ap (λ s. atFront s out) same-text)
 
 -- what `write` wrote is read again: the same head, and in each table the same rows
-module _ (month days nonzone : ℕ) (t : Tables) (small : Below (month ∷ days ∷ nonzone ∷ [])) (below : (table : Table) → Below (wordsOf t table)) where
-  row-fits : ((table : Table) → Counted t table) → (table : Table) → Fits (kindOf table) (rowsOf table t)
+module _ (head : Head) (t : Tables) (small : Below (numbersOf head)) (below : (table : Table) → Below (wordsOf t table)) where
+  row-fits : ((table : Table) → GoodCount t table) → (table : Table) → Fits (kindOf table) (rowsOf t table)
   row-fits all table =
       record {
         whole =
@@ -173,7 +151,7 @@ module _ (month days nonzone : ℕ) (t : Tables) (small : Below (month ∷ days 
         below = below table;
       }
 
-  held-within : ((table : Table) → Counted t table) → Within monthForm (contentsOf month days nonzone t)
+  held-within : ((table : Table) → GoodCount t table) → ContentsFit monthForm (contentsOf head t)
   held-within all =
       record {
         one-each = refl;
@@ -182,31 +160,26 @@ module _ (month days nonzone : ℕ) (t : Tables) (small : Below (month ∷ days 
       }
 
   held-words : (table : Table) → nth (allRows t) (placeOf table) .words ≡ wordsOf t table
-  held-words Zones = refl
-  held-words Owners = refl
-  held-words Units = refl
-  held-words Accounts = refl
-  held-words Loads = refl
-  held-words Reservations = refl
+  held-words table = ap (λ (r : Rows). r .words) (order-at (rowsOf t) noRows table)
 
-  module _ (out after : List ℕ) (w : Written) (writes : Writes month days nonzone t out after w) (z : w .answer .number ≡ 0) where
+  module _ (out after : List ℕ) (w : Written) (writes : Writes head t out after w) (z : w .answer .number ≡ 0) where
     abbrev c : Contents
-    c = contentsOf month days nonzone t
+    c = contentsOf head t
 
-    whole-rows : WriteLooked month days nonzone t out → (table : Table) → Counted t table
+    whole-rows : WriteLooked head t out → (table : Table) → GoodCount t table
     whole-rows (passed e g) = g .0
     whole-rows (stopped n why) = absurd (n (ap (λ (a : Answer). a .number) (sym (writes .answers)) ∙ z))
 
     text-again : take (w .length) after ≡ fileText monthForm c
     text-again =
-        let wrote = write-accepted month days nonzone t out after w writes z in
+        let wrote = write-accepted head t out after w writes z in
         ap (λ k. take k after) (wrote .0) ∙ ap (take (length (fileText monthForm c))) (wrote .1)
         ∙ take-append-seam (fileText monthForm c) (drop (length (fileText monthForm c)) out)
 
     pub write-then-read : (lent filledIn : Tables) (r : Reading) → Reads (take (w .length) after) lent filledIn r → ((table : Table) → Full lent table)
         → (r ≡ readAnswer (got c [])) × ((table : Table) → wordsOf filledIn table ≡ atFront (wordsOf t table) (wordsOf lent table))
     write-then-read lent filledIn r reads full =
-        let within : Within monthForm c = held-within (whole-rows (looks month days nonzone t out)) in
+        let within : ContentsFit monthForm c = held-within (whole-rows (looks head t out)) in
         let answer : r ≡ readAnswer (got c []) = good-read (take (w .length) after) lent filledIn r reads full c within text-again in
         let got-it = read-accepted (take (w .length) after) lent filledIn r reads (ap (λ (h : Reading). h .answer .number) answer) in
         let both-read : got c [] ≡ got (got-it .0) [] = sym (ap (reading monthForm) text-again ∙ written-then-read c within)

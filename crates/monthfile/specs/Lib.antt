@@ -1,6 +1,2 @@
-pub mod Form
-pub mod Reading
-pub mod Writing
-pub mod Calls
+pub mod Front
 pub mod Refused
-pub mod Walks

@@ -1,94 +1,36 @@
 -- Why `read` and `write` refuse, and that all that is looked at earlier is right.
 -- Assumes nothing.
 use mathlib.Core.Path.{_≡_}
-use mathlib.Core.Logic.{_≢_}
-use mathlib.Core.List.{List, [], _∷_, _++_}
-use Prim.Native.Nat.{ℕ, suc, _*_, _≤_, _<_}
-use lib.ListN.{length, getD, take}
+use mathlib.Core.List.{List}
+use Prim.Native.Nat.{ℕ, _*_, _≤_, _<_}
+use lib.ListN.{length}
 use Rattle.answer.specs.declared.Answer.{Answer}
-use Rattle.answer.specs.Numbers.{COUNT, ROOM, TEXT, head}
-use Rattle.tables.specs.declared.Table.{Table}
-use Rattle.tables.specs.Shape.{number, width, limit, Tables, wordsOf}
-use Rattle.tables.specs.Counts.{Counted}
+use Rattle.answer.specs.Numbers as answers
 use Rattle.answer.specs.Turns.{refusal}
-use Rattle.text.specs.Numbers.{bound, Below}
-use Rattle.text.specs.Lines.{lineText}
-use Rattle.monthfile.specs.Form.{Kind, Form, kindOf, monthForm}
-use Rattle.monthfile.specs.Reading.{Rows, Contents, rowsIn}
-use Rattle.monthfile.specs.Writing.{headsText, tablesText, fileText, Within}
-use Rattle.monthfile.specs.Calls.{nth, placeOf, monthText}
+use Rattle.tables.specs.declared.Head.{Head}
+use Rattle.tables.specs.declared.Table.{Table}
+use Rattle.tables.specs.Shape.{number, placeOf, width, limit, Tables, wordsOf}
+use Rattle.tables.specs.Counts.{GoodCount}
+use Rattle.fileform.specs.Form.{kindOf, monthForm}
+use Rattle.fileform.specs.Refused.{AtMisfit, RowTooMany}
+use Rattle.filewrite.specs.Calls.{monthText}
 
 -- "tables lent at full size"
 abbrev pub Full : Tables → Table → Type 0
 Full lent table = limit table * width table ≤ length (wordsOf lent table)
 
--- no line with this key and so many numbers stands there
-abbrev pub NoLine : List ℕ → ℕ → List ℕ → Type 0
-NoLine key width rest = (ns more : List ℕ) → length ns ≡ width → Below ns → rest ≢ lineText key ns ++ more
-
--- every line of some contents but the last
-abbrev pub beforeEnd : Form → Contents → List ℕ
-beforeEnd form c = headsText (form .heads) (c .head) ++ tablesText (form .kinds) (c .tables)
-
--- no row stands there whose turn is to come: none of a kind behind which no other kind has rows
-abbrev pub NoRow : List Kind → List Rows → List ℕ → Type 0
-NoRow [] ts rest = Unit {0}
-NoRow (kind ∷ kinds) [] rest = Unit {0}
-NoRow (kind ∷ kinds) (t ∷ ts) rest = (rowsIn ts ≡ 0 → NoLine (kind .key) (kind .width) rest) × NoRow kinds ts rest
-
-module _ (form : Form) (front rest : List ℕ) where
-  -- "a month file line that doesn't fit": every line in front fits in its turn, and what stands behind them does not
-  pub data Misfit : Type 0 where
-    -- k of the first lines, with their numbers, and the next is not there
-    no-head : (k : ℕ) (ns : List ℕ) → k < length (form .heads) → length ns ≡ k → Below ns
-        → front ≡ headsText (take k (form .heads)) ns → NoLine (getD (form .heads) k []) 1 rest → Misfit
-    -- neither a row whose turn is to come nor the last line
-    no-line : (c : Contents) → Within form c
-        → front ≡ beforeEnd form c → NoRow (form .kinds) (c .tables) rest → NoLine (form .last) 1 rest → Misfit
-    -- "An `end` with another number is TEXT at its line"
-    other-number : (c : Contents) (n : ℕ) (more : List ℕ) → Within form c → n < bound
-        → front ≡ beforeEnd form c → rest ≡ lineText (form .last) (n ∷ []) ++ more → n ≢ rowsIn (c .tables) → Misfit
-    -- "Nothing follows `end`", but bytes do
-    bytes-behind : (c : Contents) (byte : ℕ) (more : List ℕ) → Within form c
-        → front ≡ fileText form c → rest ≡ byte ∷ more → Misfit
-
--- "TEXT has table 0 and, as row, the offset of the line's first byte, of the first byte after `end`, or the text's length where a
--- line is missing": the length of what fits
-pub record AtMisfit (form : Form) (text : List ℕ) (a : Answer) : Type 0 where
-  pub front : List ℕ
-  pub rest : List ℕ
-  pub its : a ≡ refusal TEXT head (length front)
-  pub stands : text ≡ front ++ rest
-  pub why : Misfit form front rest
-
--- a form with its first kinds alone
-abbrev pub firstKinds : ℕ → Form → Form
-firstKinds k form = record { heads = form .heads; kinds = take k (form .kinds); last = form .last }
-
--- the kind at place k has a row too many: the kinds up to it stand in front, that one with as many rows as it may have, and one more
--- of its lines, which fits ("TEXT before COUNT")
-pub record RowTooMany (form : Form) (k : ℕ) (kind : Kind) (text : List ℕ) : Type 0 where
-  pub front : Contents
-  pub row : List ℕ
-  pub more : List ℕ
-  pub within : Within (firstKinds (suc k) form) front
-  pub at-limit : nth (front .tables) k .count ≡ kind .limit
-  pub wide : length row ≡ kind .width
-  pub below : Below row
-  pub stands : text ≡ beforeEnd (firstKinds (suc k) form) front ++ (lineText (kind .key) row ++ more)
-
 module _ (text : List ℕ) (lent : Tables) (a : Answer) where
   -- "tables lent at full size (ROOM, naming the first short table), then takes lines in turn, TEXT before COUNT (row is the limit)"
   pub data ReadRefused : Type 0 where
-    by-room : (table : Table) → a ≡ refusal ROOM (number table) 0 → ((earlier : Table) → number earlier < number table → Full lent earlier)
+    by-room : (table : Table) → a ≡ refusal answers.ROOM (number table) 0 → ((earlier : Table) → number earlier < number table → Full lent earlier)
         → ¬ Full lent table → ReadRefused
     by-text : AtMisfit monthForm text a → ((table : Table) → Full lent table) → ReadRefused
-    by-count : (table : Table) → a ≡ refusal COUNT (number table) (limit table) → RowTooMany monthForm (placeOf table) (kindOf table) text
+    by-count : (table : Table) → a ≡ refusal answers.COUNT (number table) (limit table) → RowTooMany monthForm (placeOf table) (kindOf table) text
         → ((every : Table) → Full lent every) → ReadRefused
 
-module _ (month days nonzone : ℕ) (t : Tables) (room : ℕ) (a : Answer) where
+module _ (head : Head) (t : Tables) (room : ℕ) (a : Answer) where
   -- "Writing refuses with COUNT (the first bad table), then ROOM (table 0)"
   pub data WriteRefused : Type 0 where
-    by-bad-table : (table : Table) → a ≡ refusal COUNT (number table) 0 → ((earlier : Table) → number earlier < number table → Counted t earlier)
-        → ¬ Counted t table → WriteRefused
-    by-short-room : a ≡ refusal ROOM head 0 → ((table : Table) → Counted t table) → room < length (monthText month days nonzone t) → WriteRefused
+    by-bad-table : (table : Table) → a ≡ refusal answers.COUNT (number table) 0 → ((earlier : Table) → number earlier < number table → GoodCount t earlier)
+        → ¬ GoodCount t table → WriteRefused
+    by-short-room : a ≡ refusal answers.ROOM answers.HEAD 0 → ((table : Table) → GoodCount t table) → room < length (monthText head t) → WriteRefused

@@ -1,6 +1,3 @@
-mod Adding
-mod Fronts
 mod Filling
 pub mod Crediting
-mod Serving
 pub mod Unique

@@ -1,9 +1,9 @@
 -- The input of a month, and how many rows its tables have.
 -- Assumes nothing.
 use Prim.Native.Nat.{ℕ}
-use mathlib.Core.List.{List}
+use Rattle.tables.specs.declared.Head.{Head}
 use Rattle.tables.specs.declared.Table.the-variants.{Zones, Owners, Units, Accounts, Loads, Reservations}
-use Rattle.tables.specs.Shape.{rows, Tables, tablesOf}
+use Rattle.tables.specs.Shape.{rows, Tables}
 
 -- "month 1..12, days, non-zone rate": "The head is three plain numbers"; and tables 1 to 6
 pub record Input : Type 0 where
@@ -12,8 +12,9 @@ pub record Input : Type 0 where
   pub nonzone : ℕ
   pub tables : Tables
 
-abbrev pub inputOf : ℕ → ℕ → ℕ → List ℕ → List ℕ → List ℕ → List ℕ → List ℕ → List ℕ → Input
-inputOf month days nonzone z o u a l r = record { month = month; days = days; nonzone = nonzone; tables = tablesOf z o u a l r }
+-- the month of a head and its tables: the one place where an input is made of them
+abbrev pub monthOf : Head → Tables → Input
+monthOf head t = record { month = head .month; days = head .days; nonzone = head .nonzone; tables = t }
 
 -- "rows laid end to end": how many of each
 abbrev pub zoneCount : Input → ℕ

@@ -69,4 +69,4 @@ module _ (m : Input) where
 
     -- what account a is charged for it
     unfoldable pub serviceCharge : ℕ → ℕ
-    serviceCharge a = service.serviceCharge serviceIn a
+    serviceCharge a = service.accountCharge serviceIn a

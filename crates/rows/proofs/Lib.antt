@@ -1,1 +1,2 @@
 pub mod Looks
+mod KeyColumns

@@ -1,6 +1,6 @@
 -- What a row's looks find, as the code finds it: the first row has none before it, a search ends where it finds a row.
 -- Assumes nothing.
-use mathlib.Core.Path.{_≡_, refl, sym, ap, subst}
+use mathlib.Core.Path.{_≡_, refl, sym, ap, subst, _∙_}
 use mathlib.Core.Bool.{Bool, true, false, not}
 use mathlib.Core.List.{List}
 use Prim.Native.Nat.{ℕ, _-_, _/_, _<_}
@@ -10,9 +10,9 @@ use Rattle.lists.specs.Sums.{any}
 use Rattle.lists.proofs.Search.{any-at}
 use Rattle.tables.specs.declared.Table.{Table}
 use Rattle.tables.specs.declared.Table.the-variants.{Zones, Owners, Units, Accounts, Loads, Reservations}
-use Rattle.tables.specs.Shape.{number, width, rows}
+use Rattle.tables.specs.Shape.{number, width, rows, Tables, wordsOf}
 use Rattle.tables.specs.Columns.{entry}
-use Rattle.rows.specs.Rows.{notAbove, byFirst, rowAbove, names, unknown, samePair, taken, rowTaken}
+use Rattle.rows.specs.Rows.{notAbove, names, unknown, rowUnlinked, samePair, taken, rowTaken}
 
 -- a row of a table that turns out to be a certain one
 pub row-of : (table known : Table) (n i : ℕ) → table ≡ known → i < n / width table → i < n / width known
@@ -26,15 +26,6 @@ pub later-row : (above : ℕ → ℕ → Bool) (i : ℕ) → (i ≡ 0 → ⊥) �
 unfolding notAbove
 later-row above i d = rw (lt-ltb 0 i (pos-of-ne-zero d))
 
--- a table that is not the loads' ascends by its first entry
-pub by-first : (table : Table) (words : List ℕ) (i : ℕ) → (number table ≡ number Loads → ⊥) → notAbove (byFirst table words) i ≡ notAbove (rowAbove table words) i
-by-first Zones words i d = refl
-by-first Owners words i d = refl
-by-first Units words i d = refl
-by-first Accounts words i d = refl
-by-first Loads words i d = absurd (d refl)
-by-first Reservations words i d = refl
-
 pub row-found : (table : Table) (words : List ℕ) (x j : ℕ) → j < rows table words → entry table 0 words j ≡ x → false ≡ unknown table words x
 unfolding unknown
 row-found table words x j h e = sym (ap not (any-at (rows table words) (names table words x) j h (eq-eqb (entry table 0 words j) x e)))
@@ -42,6 +33,21 @@ row-found table words x j h e = sym (ap not (any-at (rows table words) (names ta
 pub row-missing : (table : Table) (words : List ℕ) (x : ℕ) → any (rows table words) (names table words x) ≡ false → true ≡ unknown table words x
 unfolding unknown
 row-missing table words x e = rw e
+
+-- a table that turns out to be a certain one, whose words come from a call: its rows, what their entries name, and LINK
+module _ (t : Tables) (table known : Table) (words : List ℕ) (i : ℕ) (told : table ≡ known) (held : words ≡ wordsOf t table) where
+  pub row-held : i < rows table (wordsOf t table) → i < rows known words
+  row-held h = row-of table known _ i told (rw held h)
+
+  pub entry-held : (column x : ℕ) → x ≡ entry known column words i → x ≡ entry known column (wordsOf t known) i
+  entry-held column x e = e ∙ ap (λ w. entry known column w i) (held ∙ ap (wordsOf t) told)
+
+  pub named-held : (named : Table) (column x : ℕ) (missing : Bool) → missing ≡ unknown named (wordsOf t named) x → x ≡ entry known column words i
+      → missing ≡ unknown named (wordsOf t named) (entry known column (wordsOf t known) i)
+  named-held named column x missing r e = r ∙ ap (unknown named (wordsOf t named)) (entry-held column x e)
+
+  pub link-held : (missing : Bool) → missing ≡ rowUnlinked t known i → missing ≡ rowUnlinked t table i
+  link-held missing r = r ∙ ap (λ k. rowUnlinked t k i) (sym told)
 
 pub pair-found : (accounts : List ℕ) (i j : ℕ) → j < i → samePair accounts j i ≡ true → true ≡ taken accounts i
 unfolding taken

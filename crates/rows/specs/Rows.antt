@@ -4,13 +4,13 @@ use Prim.Native.Nat.{ℕ, _-_}
 use mathlib.Core.Bool.{Bool, false, not, _&&_, _||_}
 use mathlib.Core.List.{List}
 use lib.Dec.{eqb, ltb}
-use Rattle.lists.specs.Sums.{any}
+use Rattle.lists.specs.Sums.{any, every}
 use Rattle.answer.specs.Numbers.{RANGE, ORDER, LINK, PAIR}
 use Rattle.answer.specs.Turns.{look}
-use Rattle.month.specs.Limits.{mostRate, mostAnnual, mostLoad, mostEnergy}
+use Rattle.month.specs.Limits.{mostRate, mostAnnual, mostLoad, mostEnergy, lastZone, lastOwner, lastUnit, lastAccount, lastCustomer, blackStart, reactive, reserveLimit}
 use Rattle.tables.specs.declared.Table.{Table}
 use Rattle.tables.specs.declared.Table.the-variants.{Zones, Owners, Units, Accounts, Loads, Reservations}
-use Rattle.tables.specs.Shape.{rows, Tables, wordsOf}
+use Rattle.tables.specs.Shape.{keyColumns, rows, Tables, wordsOf}
 use Rattle.tables.specs.Columns.{
   entry,
   zoneNumber,
@@ -34,7 +34,6 @@ use Rattle.tables.specs.Columns.{
   reservationReserved,
   reservationCurtailed,
 }
-use Rattle.tables.specs.Limits.{lastZone, lastOwner, lastUnit, lastAccount, lastCustomer, blackStart, reactive, reserveLimit}
 
 -- "an entry outside its range"
 abbrev pub outside : ℕ → ℕ → ℕ → Bool
@@ -95,24 +94,15 @@ rowOutside days Reservations words i = reservationOutside words i
 unfoldable pub notAbove : (ℕ → ℕ → Bool) → ℕ → Bool
 notAbove above i = ltb 0 i && not (above (i - 1) i)
 
--- "Zones, owners, units, accounts and reservations strictly ascend by their first entry .."
-abbrev pub byFirst : Table → List ℕ → ℕ → ℕ → Bool
-byFirst table words j i = ltb (entry table 0 words j) (entry table 0 words i)
+-- of two rows, given by their columns, the second stands above the first: in one of the first n columns it is larger, and in the
+-- columns before that one the two are the same
+unfoldable pub above : ℕ → (ℕ → ℕ) → (ℕ → ℕ) → Bool
+above n lower upper = any n (λ c. every c (λ k. eqb (lower k) (upper k)) && ltb (lower c) (upper c))
 
--- ".. loads by account, then day"
-abbrev pub byAccountAndDay : List ℕ → ℕ → ℕ → Bool
-byAccountAndDay loads j i =
-    ltb (loadAccount loads j) (loadAccount loads i)
-    || (eqb (loadAccount loads j) (loadAccount loads i) && ltb (loadDay loads j) (loadDay loads i))
-
--- ORDER of the rows of a table
+-- ORDER of the rows of a table, by its key columns: "Zones, owners, units, accounts and reservations strictly ascend by their first
+-- entry, loads by account, then day"
 abbrev pub rowAbove : Table → List ℕ → ℕ → ℕ → Bool
-rowAbove Zones words = byFirst Zones words
-rowAbove Owners words = byFirst Owners words
-rowAbove Units words = byFirst Units words
-rowAbove Accounts words = byFirst Accounts words
-rowAbove Loads words = byAccountAndDay words
-rowAbove Reservations words = byFirst Reservations words
+rowAbove table words j i = above (keyColumns table) (λ c. entry table c words j) (λ c. entry table c words i)
 
 -- row j has x as its first entry
 abbrev pub names : Table → List ℕ → ℕ → ℕ → Bool
@@ -122,15 +112,15 @@ names table words x j = eqb (entry table 0 words j) x
 unfoldable pub unknown : Table → List ℕ → ℕ → Bool
 unknown table words x = not (any (rows table words) (names table words x))
 
--- LINK of row i of a table: "A zone, owner or account that a row refers to must have a row (account zone 0 excepted)"; "A unit may
--- serve a zone that isn't its owner's"
-abbrev pub rowUnlinked : List ℕ → List ℕ → List ℕ → Table → List ℕ → ℕ → Bool
-rowUnlinked zones owners accounts Zones words i = false
-rowUnlinked zones owners accounts Owners words i = unknown Zones zones (ownerZone words i)
-rowUnlinked zones owners accounts Units words i = unknown Owners owners (unitOwner words i) || unknown Zones zones (unitZone words i)
-rowUnlinked zones owners accounts Accounts words i = not (eqb (accountZone words i) 0) && unknown Zones zones (accountZone words i)
-rowUnlinked zones owners accounts Loads words i = unknown Accounts accounts (loadAccount words i)
-rowUnlinked zones owners accounts Reservations words i = unknown Accounts accounts (reservationAccount words i)
+-- LINK of row i of a month's table: "A zone, owner or account that a row refers to must have a row (account zone 0 excepted)";
+-- "A unit may serve a zone that isn't its owner's"
+abbrev pub rowUnlinked : Tables → Table → ℕ → Bool
+rowUnlinked t Zones i = false
+rowUnlinked t Owners i = unknown Zones (t .zones) (ownerZone (t .owners) i)
+rowUnlinked t Units i = unknown Owners (t .owners) (unitOwner (t .units) i) || unknown Zones (t .zones) (unitZone (t .units) i)
+rowUnlinked t Accounts i = not (eqb (accountZone (t .accounts) i) 0) && unknown Zones (t .zones) (accountZone (t .accounts) i)
+rowUnlinked t Loads i = unknown Accounts (t .accounts) (loadAccount (t .loads) i)
+rowUnlinked t Reservations i = unknown Accounts (t .accounts) (reservationAccount (t .reservations) i)
 
 -- two accounts "share customer and zone"
 abbrev pub samePair : List ℕ → ℕ → ℕ → Bool
@@ -154,15 +144,11 @@ rowTaken Reservations words i = false
 unfoldable pub rowNumber : Bool → Bool → Bool → Bool → ℕ
 rowNumber range order link pair = look range RANGE (look order ORDER (look link LINK (look pair PAIR 0)))
 
--- the number of row i of a table, in a month of so many days; its entries may name rows of the zones, owners and accounts
-unfoldable pub rowIn : ℕ → List ℕ → List ℕ → List ℕ → Table → List ℕ → ℕ → ℕ
-rowIn days zones owners accounts table words i =
+-- the number of row i of a month's table, in a month of so many days
+unfoldable pub rowOf : ℕ → Tables → Table → ℕ → ℕ
+rowOf days t table i =
     rowNumber
-    (rowOutside days table words i)
-    (notAbove (rowAbove table words) i)
-    (rowUnlinked zones owners accounts table words i)
-    (rowTaken table words i)
-
--- .. and of a month's table
-abbrev pub rowOf : ℕ → Tables → Table → ℕ → ℕ
-rowOf days t table = rowIn days (t .zones) (t .owners) (t .accounts) table (wordsOf t table)
+    (rowOutside days table (wordsOf t table) i)
+    (notAbove (rowAbove table (wordsOf t table)) i)
+    (rowUnlinked t table i)
+    (rowTaken table (wordsOf t table) i)

@@ -1,31 +1,28 @@
 // What is looked at in one row of a table, and the row's number: 0 where it is fine, else that of the first fault that is there, in
-// the order RANGE, ORDER, LINK, PAIR. `ranges` has the ranges of each table's entries, `rules` the other three.
+// the order RANGE, ORDER, LINK, PAIR. `ranges` has the ranges of each table's entries, `order` the order of its rows, `rules` the other two.
 ghost use mathlib.Core.Path.{_≡_};
+ghost use mathlib.Core.List.{map};
 ghost use Prim.Native.Nat.{_<_};
-ghost use Rattle.tables.specs.Shape.{rows};
-ghost use Rattle.rows.specs.Rows.{outside, rowNumber, rowIn};
+ghost use Rattle.tables.specs.Shape.{rows, tablesFrom, wordsOf};
+ghost use Rattle.rows.specs.Rows.{outside, rowNumber, rowOf};
 use answer::look;
+use month::Month;
+use tables::TABLES;
 use tables::Table;
 
+mod order;
 mod ranges;
 mod rules;
 
-// The number of row `i` of a table, in a month of so many days; its entries may name rows of the zones, owners and accounts.
-pub fn row(
-    table: Table,
-    days: u64,
-    zones: &[u64],
-    owners: &[u64],
-    accounts: &[u64],
-    words: &[u64],
-    i: usize,
-) -> u64
-    requires { ⌜ i < rows table (now words) ⌝ }
-    ensures { λ r. ⌜ r ≡ rowIn days (now (zones .entry)) (now (owners .entry)) (now (accounts .entry)) table (now (words .entry)) i ⌝ }
+// The number of row `i` of a table, in its month; the row's entries may name rows of other tables.
+pub fn row<'a>(table: Table, month: Month, tables: [&'a [u64]; TABLES], i: usize) -> u64
+    requires { ⌜ i < rows table (wordsOf (tablesFrom (map now tables)) table) ⌝ }
+    ensures { λ r. ⌜ r ≡ rowOf (month .days) (tablesFrom (map now (tables .entry))) table i ⌝ }
 {
-    let range = ranges::row_outside(table, days, words, i);
-    let order = rules::row_not_above(table, words, i);
-    let link = rules::row_unlinked(table, zones, owners, accounts, words, i);
+    let words = tables::words_of(tables, table);
+    let range = ranges::row_outside(table, month, words, i);
+    let order = order::row_not_above(table, words, i);
+    let link = rules::row_unlinked(table, tables, i);
     let pair = rules::row_taken(table, words, i);
     row_number(range, order, link, pair)
 }

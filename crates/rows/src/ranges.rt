@@ -3,9 +3,10 @@ ghost use mathlib.Core.Path.{_≡_};
 ghost use Prim.Native.Nat.{_<_};
 ghost use Rattle.tables.specs.declared.Table.the-variants.{Zones, Owners, Units, Accounts, Loads, Reservations};
 ghost use Rattle.tables.specs.Shape.{rows};
-ghost use Rattle.tables.specs.Limits.{reserveLimit};
+ghost use Rattle.month.specs.Limits.{reserveLimit};
 ghost use Rattle.rows.specs.Rows.{zoneOutside, ownerOutside, unitOutside, accountOutside, loadOutside, reservationOutside, rowOutside};
 use crate::outside;
+use month::Month;
 use tables::BLACK_START;
 use tables::LAST_ACCOUNT;
 use tables::LAST_CUSTOMER;
@@ -100,10 +101,11 @@ fn account_outside(accounts: &[u64], i: usize) -> bool
         | outside(0, LAST_ZONE, zone)
 }
 
-fn load_outside(days: u64, loads: &[u64], i: usize) -> bool
+fn load_outside(month: Month, loads: &[u64], i: usize) -> bool
     requires { ⌜ i < rows Loads (now loads) ⌝ }
-    ensures { λ r. ⌜ r ≡ loadOutside days (now (loads .entry)) i ⌝ }
+    ensures { λ r. ⌜ r ≡ loadOutside (month .days) (now (loads .entry)) i ⌝ }
 {
+    let days = month.day_count();
     let account = entry(Table::Loads, LOAD_ACCOUNT, loads, i);
     let day = entry(Table::Loads, LOAD_DAY, loads, i);
     let contribution = entry(Table::Loads, LOAD_CONTRIBUTION, loads, i);
@@ -123,17 +125,17 @@ fn reservation_outside(words: &[u64], i: usize) -> bool
         | outside(0, reserved, curtailed)
 }
 
-// An entry of row `i` of a table is outside its range, in a month of so many days.
-pub fn row_outside(table: Table, days: u64, words: &[u64], i: usize) -> bool
+// An entry of row `i` of a table is outside its range, in its month.
+pub fn row_outside(table: Table, month: Month, words: &[u64], i: usize) -> bool
     requires { ⌜ i < rows table (now words) ⌝ }
-    ensures { λ r. ⌜ r ≡ rowOutside days table (now (words .entry)) i ⌝ }
+    ensures { λ r. ⌜ r ≡ rowOutside (month .days) table (now (words .entry)) i ⌝ }
 {
     match table {
         Table::Zones => zone_outside(words, i),
         Table::Owners => owner_outside(words, i),
         Table::Units => unit_outside(words, i),
         Table::Accounts => account_outside(words, i),
-        Table::Loads => load_outside(days, words, i),
+        Table::Loads => load_outside(month, words, i),
         Table::Reservations => reservation_outside(words, i),
     }
 }

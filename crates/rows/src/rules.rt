@@ -1,63 +1,26 @@
-// ORDER, LINK and PAIR: each look is true where the row breaks its rule.
+// LINK and PAIR: each look is true where the row breaks its rule.
 ghost use mathlib.Core.Path.{_≡_};
+ghost use mathlib.Core.List.{map};
 ghost use Prim.Native.Nat.{_<_};
-ghost use Rattle.tables.specs.declared.Table.the-variants.{Accounts, Loads};
-ghost use Rattle.tables.specs.Shape.{rows};
-ghost use Rattle.rows.specs.Rows.{notAbove, byFirst, byAccountAndDay, rowAbove, unknown, rowUnlinked, samePair, taken, rowTaken};
+ghost use Rattle.tables.specs.declared.Table.the-variants.{Accounts};
+ghost use Rattle.tables.specs.Shape.{rows, tablesFrom, wordsOf};
+ghost use Rattle.rows.specs.Rows.{unknown, rowUnlinked, samePair, taken, rowTaken};
+use tables::TABLES;
 use tables::Table;
 use tables::columns::ACCOUNT_CUSTOMER;
 use tables::columns::ACCOUNT_ZONE;
 use tables::columns::LOAD_ACCOUNT;
-use tables::columns::LOAD_DAY;
 use tables::columns::OWNER_ZONE;
 use tables::columns::RESERVATION_ACCOUNT;
 use tables::columns::UNIT_OWNER;
 use tables::columns::UNIT_ZONE;
 use tables::columns::entry;
 
-// A row's first entry is not above that of the row before.
-fn not_above(table: Table, words: &[u64], i: usize) -> bool
-    requires { ⌜ i < rows table (now words) ⌝ }
-    ensures { λ r. ⌜ r ≡ notAbove (byFirst table (now (words .entry))) i ⌝ }
-{
-    if i == 0 {
-        return false;
-    }
-    let before = entry(table, 0, words, i - 1);
-    let here = entry(table, 0, words, i);
-    !(before < here)
-}
-
-// A load's account and day are not above those of the load before.
-fn load_not_above(loads: &[u64], i: usize) -> bool
-    requires { ⌜ i < rows Loads (now loads) ⌝ }
-    ensures { λ r. ⌜ r ≡ notAbove (byAccountAndDay (now (loads .entry))) i ⌝ }
-{
-    if i == 0 {
-        return false;
-    }
-    let before = entry(Table::Loads, LOAD_ACCOUNT, loads, i - 1);
-    let here = entry(Table::Loads, LOAD_ACCOUNT, loads, i);
-    let day_before = entry(Table::Loads, LOAD_DAY, loads, i - 1);
-    let day = entry(Table::Loads, LOAD_DAY, loads, i);
-    !((before < here) | ((before == here) & (day_before < day)))
-}
-
-// Row `i` of a table is not above the one before: loads by account, then day, every other table by its first entry.
-pub fn row_not_above(table: Table, words: &[u64], i: usize) -> bool
-    requires { ⌜ i < rows table (now words) ⌝ }
-    ensures { λ r. ⌜ r ≡ notAbove (rowAbove table (now (words .entry))) i ⌝ }
-{
-    if tables::number(table) == answer::LOADS {
-        return load_not_above(words, i);
-    }
-    not_above(table, words, i)
-}
-
 // No row of a table has x as its first entry.
-fn unknown(table: Table, words: &[u64], x: u64) -> bool
-    ensures { λ r. ⌜ r ≡ unknown table (now (words .entry)) x ⌝ }
+fn unknown<'a>(table: Table, tables: [&'a [u64]; TABLES], x: u64) -> bool
+    ensures { λ r. ⌜ r ≡ unknown table (wordsOf (tablesFrom (map now (tables .entry))) table) x ⌝ }
 {
+    let words = tables::words_of(tables, table);
     let n = tables::rows_in(table, words.len());
     let mut j = 0;
     while j < n {
@@ -70,39 +33,33 @@ fn unknown(table: Table, words: &[u64], x: u64) -> bool
 }
 
 // A row that an entry of row `i` of a table names does not exist; an account at the border names no zone.
-pub fn row_unlinked(
-    table: Table,
-    zones: &[u64],
-    owners: &[u64],
-    accounts: &[u64],
-    words: &[u64],
-    i: usize,
-) -> bool
-    requires { ⌜ i < rows table (now words) ⌝ }
-    ensures { λ r. ⌜ r ≡ rowUnlinked (now (zones .entry)) (now (owners .entry)) (now (accounts .entry)) table (now (words .entry)) i ⌝ }
+pub fn row_unlinked<'a>(table: Table, tables: [&'a [u64]; TABLES], i: usize) -> bool
+    requires { ⌜ i < rows table (wordsOf (tablesFrom (map now tables)) table) ⌝ }
+    ensures { λ r. ⌜ r ≡ rowUnlinked (tablesFrom (map now (tables .entry))) table i ⌝ }
 {
+    let words = tables::words_of(tables, table);
     match table {
         Table::Zones => false,
         Table::Owners => {
             let zone = entry(Table::Owners, OWNER_ZONE, words, i);
-            unknown(Table::Zones, zones, zone)
+            unknown(Table::Zones, tables, zone)
         }
         Table::Units => {
             let owner = entry(Table::Units, UNIT_OWNER, words, i);
             let zone = entry(Table::Units, UNIT_ZONE, words, i);
-            unknown(Table::Owners, owners, owner) | unknown(Table::Zones, zones, zone)
+            unknown(Table::Owners, tables, owner) | unknown(Table::Zones, tables, zone)
         }
         Table::Accounts => {
             let zone = entry(Table::Accounts, ACCOUNT_ZONE, words, i);
-            (zone != 0) & unknown(Table::Zones, zones, zone)
+            (zone != 0) & unknown(Table::Zones, tables, zone)
         }
         Table::Loads => {
             let account = entry(Table::Loads, LOAD_ACCOUNT, words, i);
-            unknown(Table::Accounts, accounts, account)
+            unknown(Table::Accounts, tables, account)
         }
         Table::Reservations => {
             let account = entry(Table::Reservations, RESERVATION_ACCOUNT, words, i);
-            unknown(Table::Accounts, accounts, account)
+            unknown(Table::Accounts, tables, account)
         }
     }
 }

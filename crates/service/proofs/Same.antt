@@ -9,7 +9,7 @@ use Rattle.lists.specs.Entries.{listed}
 use Rattle.lists.proofs.Sums.{sum-eq}
 use Rattle.lists.proofs.Entries.{length-listed, at-listed, listed-eq}
 use Rattle.answer.specs.declared.Answer.{Answer}
-use Rattle.answer.specs.Numbers.{divisions}
+use Rattle.answer.specs.Numbers.{DIVISIONS}
 use Rattle.answer.specs.Turns.{refuse, _then_, turns}
 use Rattle.answer.proofs.Turns.{turns-eq}
 use Rattle.division.specs.Limits.{sizeRefusal}
@@ -19,14 +19,14 @@ use Rattle.service.specs.Service.{
   Service,
   zoneUse,
   nonzoneUse,
-  uses,
+  bothUses,
   zoneSide,
   nonzoneSide,
   zoneSides,
   nonzonePot,
   nonzoneParts,
   nonzoneShare,
-  serviceCharge,
+  accountCharge,
   serviceOf,
 }
 use Rattle.service.specs.Turn.{splitRefusal, shareRefusal, nonzoneRefusal, splitPlace, sharePlace, zoneTurn, serviceInTurn, Served}
@@ -41,8 +41,8 @@ pub record Same (s t : Service) : Type 0 where
   pub same-pot : (z : ℕ) → z < s .zones → s .pot z ≡ t .pot z
 
 module _ {s t : Service} (e : Same s t) where
-  same-uses : uses s ≡ uses t
-  unfolding uses zoneUse nonzoneUse
+  same-uses : bothUses s ≡ bothUses t
+  unfolding bothUses zoneUse nonzoneUse
   same-uses =
       ap₂ (λ x y. x ∷ y ∷ [])
       (sum-eq (s .accounts) (s .zonePart) (t .zonePart) (e .same-zone-part) ∙ ap (λ n. sumTo n (t .zonePart)) (e .same-accounts))
@@ -72,15 +72,15 @@ module _ {s t : Service} (e : Same s t) where
       listed-eq (s .accounts) (s .nonzonePart) (t .nonzonePart) (e .same-nonzone-part)
       ∙ ap (λ n. listed n (t .nonzonePart)) (e .same-accounts)
 
-  pub same-charge : (a : ℕ) → serviceCharge s a ≡ serviceCharge t a
-  unfolding serviceCharge nonzoneShare
+  pub same-charge : (a : ℕ) → accountCharge s a ≡ accountCharge t a
+  unfolding accountCharge nonzoneShare
   same-charge a =
       ap₂ _+_ (groups.same-amounts same-sides a) (ap₂ (λ pot l. at (shares pot l) a) same-nonzone-pot same-nonzone-parts)
 
   same-zone-turn : (place z : ℕ) → z < s .zones → zoneTurn s place z ≡ zoneTurn t place z
   unfolding zoneTurn splitRefusal shareRefusal
   same-zone-turn place z b =
-      ap₂ (λ n m. refuse n divisions (splitPlace place z) then refuse m divisions (sharePlace place z))
+      ap₂ (λ n m. refuse n DIVISIONS (splitPlace place z) then refuse m DIVISIONS (sharePlace place z))
       (ap₂ (λ pot l. sizeRefusal pot (total l)) (e .same-pot z b) same-uses)
       (groups.same-refusal same-sides z b)
 
@@ -89,7 +89,7 @@ module _ {s t : Service} (e : Same s t) where
   same-turn place =
       ap₂ _then_
       (turns-eq (zoneTurn s place) (zoneTurn t place) (s .zones) (same-zone-turn place) ∙ ap (turns (zoneTurn t place)) (e .same-zones))
-      (ap₂ (λ n k. refuse n divisions (place + 2 * k))
+      (ap₂ (λ n k. refuse n DIVISIONS (place + 2 * k))
       (ap₂ (λ pot l. sizeRefusal pot (total l)) same-nonzone-pot same-nonzone-parts) (e .same-zones))
 
   pub same-served : (place : ℕ) (before after : List ℕ) (r : Answer) → Served s place before after r → Served t place before after r

@@ -11,16 +11,15 @@ use Rattle.lists.specs.Sums.{at, total}
 use Rattle.lists.specs.Entries.{listed, put}
 use Rattle.lists.proofs.Entries.{listed-at, length-listed, length-put, at-put}
 use Rattle.answer.specs.declared.Answer.{Answer}
-use Rattle.answer.specs.Numbers.{divisions}
+use Rattle.answer.specs.Numbers.{DIVISIONS}
 use Rattle.answer.specs.Turns.{refuse, turns}
 use Rattle.answer.proofs.Turns.{then-first, then-second, refuse-number}
 use Rattle.division.specs.Limits.{sizeRefusal}
 use Rattle.division.specs.Shares.{shares}
-use Rattle.groups.specs.Groups.{amounts}
+use Rattle.groups.specs.Groups.{amountInAll, mostGroups}
 use Rattle.groups.specs.Columns.{Addable, Added}
-use Rattle.groups.specs.Steps.{mostGroups}
 use Rattle.groups.proofs.Summing.{summed-room}
-use Rattle.service.specs.Service.{Service, nonzonePot, nonzoneParts, nonzoneShare, serviceCharge}
+use Rattle.service.specs.Service.{Service, nonzonePot, nonzoneParts, nonzoneShare, accountCharge}
 use Rattle.service.specs.Turn.{nonzoneRefusal, nonzonePlace, zoneTurn, serviceInTurn}
 use Rattle.service.specs.Steps.{AllZones, AllCharged}
 use Rattle.service.specs.declared.ZoneCharged.{ZoneCharged}
@@ -67,24 +66,24 @@ module _ {s : Service} {place : ℕ} {sums : List ℕ} {r : ZoneCharged} (zones 
             ∙ (rw (eq-eqb refusal 0 none))
             ∙ ap (λ n. put n (λ i. at sums i + at (shares (r .nonzone) parts) i) sums) as-many
 
-        charged : refusal ≡ 0 → (i : ℕ) → i < s .accounts → at after i ≡ serviceCharge s i
-        unfolding serviceCharge nonzoneShare amounts
+        charged : refusal ≡ 0 → (i : ℕ) → i < s .accounts → at after i ≡ accountCharge s i
+        unfolding accountCharge nonzoneShare amountInAll
         charged none i b =
             ap (λ l. at l i) (added none)
             ∙ at-put (s .accounts) _ sums (zones .charged fine .summed .long) i b
             ∙ ap₂ _+_ (zones .charged fine .summed .sums i b) (ap₂ (λ q l. at (shares q l) i) pot-is p)
 
         -- the non-zone pot's division has the answer
-        pub nonzone-ends : (answer : Answer) → answer ≡ refuse refusal divisions (nonzonePlace place s)
+        pub nonzone-ends : (answer : Answer) → answer ≡ refuse refusal DIVISIONS (nonzonePlace place s)
             → AllCharged s place after answer
         unfolding serviceInTurn
         nonzone-ends answer e =
             let number : answer .number ≡ refusal =
-            ap (λ (q : Answer). q .number) e ∙ refuse-number refusal divisions (nonzonePlace place s) in
+            ap (λ (q : Answer). q .number) e ∙ refuse-number refusal DIVISIONS (nonzonePlace place s) in
             record {
               answers =
                   e
-                  ∙ ap (λ n. refuse n divisions (nonzonePlace place s)) number-is
+                  ∙ ap (λ n. refuse n DIVISIONS (nonzonePlace place s)) number-is
                   ∙ sym (then-second (turns (zoneTurn s place) (s .zones)) _ (ap (λ (q : Answer). q .number) (sym (zones .answer)) ∙ fine));
               long = λ o.
                   le-trans (zones .charged fine .summed .long)

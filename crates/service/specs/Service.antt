@@ -6,7 +6,7 @@ use lib.ListN.{length}
 use Rattle.lists.specs.Sums.{sumTo, at}
 use Rattle.lists.specs.Entries.{listed}
 use Rattle.division.specs.Shares.{shares}
-use Rattle.groups.specs.Groups.{Pots, amount, amounts}
+use Rattle.groups.specs.Groups.{Pots, amount, amountInAll}
 
 -- One service: how many accounts there are, the zone, the zone part and the non-zone part of use of each; how many zones there
 -- are, the number and the pot of each.
@@ -28,16 +28,16 @@ unfoldable pub nonzoneUse : Service → ℕ
 nonzoneUse s = sumTo (s .accounts) (s .nonzonePart)
 
 -- "first divided in two, by all zone use and all non-zone use, zone side first (the adjustment factor)"
-unfoldable pub uses : Service → List ℕ
-uses s = zoneUse s ∷ nonzoneUse s ∷ []
+unfoldable pub bothUses : Service → List ℕ
+bothUses s = zoneUse s ∷ nonzoneUse s ∷ []
 
 -- the zone side of zone z
 unfoldable pub zoneSide : Service → ℕ → ℕ
-zoneSide s z = at (shares (s .pot z) (uses s)) 0
+zoneSide s z = at (shares (s .pot z) (bothUses s)) 0
 
 -- the non-zone side of zone z
 unfoldable pub nonzoneSide : Service → ℕ → ℕ
-nonzoneSide s z = at (shares (s .pot z) (uses s)) 1
+nonzoneSide s z = at (shares (s .pot z) (bothUses s)) 1
 
 -- "The zone side is divided among that zone's accounts by use"
 abbrev pub zoneSides : Service → Pots
@@ -68,8 +68,8 @@ unfoldable pub nonzoneShare : Service → ℕ → ℕ
 nonzoneShare s a = at (shares (nonzonePot s) (nonzoneParts s)) a
 
 -- what account a is charged: its shares of all zone sides and of the non-zone pot
-unfoldable pub serviceCharge : Service → ℕ → ℕ
-serviceCharge s a = amounts (zoneSides s) a + nonzoneShare s a
+unfoldable pub accountCharge : Service → ℕ → ℕ
+accountCharge s a = amountInAll (zoneSides s) a + nonzoneShare s a
 
 -- the zones' pots and numbers, the accounts' two parts and their zones as plain lists
 abbrev pub serviceOf : List ℕ → List ℕ → List ℕ → List ℕ → List ℕ → Service

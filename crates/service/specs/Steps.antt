@@ -1,29 +1,20 @@
--- What the parts of a service's code promise each other.
+-- What functions say among themselves while a service is charged. A reader of the promises needs none of it.
 -- Assumes nothing.
 use mathlib.Core.Path.{_≡_}
 use mathlib.Core.List.{List}
-use Prim.Native.Nat.{ℕ, _+_, _<_, _^_}
-use lib.ListN.{length}
+use Prim.Native.Nat.{ℕ, _+_, _<_}
 use Rattle.lists.specs.Sums.{sumTo, at, total}
 use Rattle.answer.specs.declared.Answer.{Answer}
-use Rattle.answer.specs.Numbers.{divisions}
+use Rattle.answer.specs.Numbers.{DIVISIONS}
 use Rattle.answer.specs.Turns.{refuse, _then_, turns}
 use Rattle.division.specs.Limits.{sizeRefusal}
 use Rattle.division.specs.Shares.{shares}
 use Rattle.groups.specs.Columns.{Added}
-use Rattle.groups.specs.Steps.{Together, Summed, Made}
-use Rattle.service.specs.Service.{Service, nonzoneSide, zoneSides, serviceCharge}
+use Rattle.groups.specs.Steps.{Summed, ColumnMade}
+use Rattle.service.specs.Service.{Service, nonzoneSide, zoneSides, accountCharge}
 use Rattle.service.specs.Turn.{splitRefusal, zoneTurn, serviceInTurn}
 use Rattle.service.specs.declared.Sides.{Sides}
 use Rattle.service.specs.declared.ZoneCharged.{ZoneCharged}
-
--- Lists that go together: a pot for each zone's number, a zone and two parts for each account, at most 64 zones and 64 accounts (the
--- paper has 16 and 32), and parts that add up to a word.
-pub record Lent (pots numbers zoneparts nonzoneparts zones : List ℕ) : Type 0 where
-  pub together : Together pots numbers zoneparts zones
-  pub both-parts : length nonzoneparts ≡ length zoneparts
-  pub zone-use : total zoneparts < 2 ^ 64
-  pub nonzone-use : total nonzoneparts < 2 ^ 64
 
 -- a pot in two by two uses
 pub record Split (pot : ℕ) (uses : List ℕ) (r : Sides) : Type 0 where
@@ -35,8 +26,8 @@ pub record Split (pot : ℕ) (uses : List ℕ) (r : Sides) : Type 0 where
 pub record OneZone (pot : ℕ) (uses weights : List ℕ) (place : ℕ) (before after : List ℕ) (r : ZoneCharged) : Type 0 where
   pub answer :
       r .answer
-      ≡ (refuse (sizeRefusal pot (total uses)) divisions place
-      then refuse (sizeRefusal (at (shares pot uses) 0) (total weights)) divisions (place + 1))
+      ≡ (refuse (sizeRefusal pot (total uses)) DIVISIONS place
+      then refuse (sizeRefusal (at (shares pot uses) 0) (total weights)) DIVISIONS (place + 1))
   pub added : r .answer .number ≡ 0 → Added (at (shares pot uses) 0) weights before after 0
   pub nonzone-side : r .answer .number ≡ 0 → r .nonzone ≡ at (shares pot uses) 1
 
@@ -54,4 +45,4 @@ pub record AllZones (s : Service) (place : ℕ) (after : List ℕ) (r : ZoneChar
 
 -- The whole service, charged to a column of zeros.
 abbrev pub AllCharged : Service → ℕ → List ℕ → Answer → Type 0
-AllCharged s place after r = Made (s .accounts) (serviceCharge s) (serviceInTurn s place) after r
+AllCharged s place after r = ColumnMade (s .accounts) (accountCharge s) (serviceInTurn s place) after r

@@ -15,8 +15,8 @@ ghost use Rattle.groups.specs.Groups.{among};
 ghost use Rattle.groups.specs.Columns.{Addable};
 ghost use Rattle.groups.specs.Steps.{Summed};
 ghost use Rattle.service.specs.Service.{serviceOf, zoneSides};
-ghost use Rattle.service.specs.Turn.{Served};
-ghost use Rattle.service.specs.Steps.{Lent, Split, OneZone, AllZones, AllCharged};
+ghost use Rattle.service.specs.Turn.{Served, ServiceTogether};
+ghost use Rattle.service.specs.Steps.{Split, OneZone, AllZones, AllCharged};
 
 // The two sides of a zone's pot, where the number is not a refusal's.
 struct Sides {
@@ -87,7 +87,7 @@ fn charge_zones(
     column: &mut [u64],
     place: u64,
 ) -> ZoneCharged
-    requires { ⌜ Lent (now pots) (now numbers) (now zoneparts) (now nonzoneparts) (now zones) ⌝ }
+    requires { ⌜ ServiceTogether (now pots) (now numbers) (now zoneparts) (now nonzoneparts) (now zones) ⌝ }
     requires { ⌜ Summed (zoneSides (serviceOf (now pots) (now numbers) (now zoneparts) (now nonzoneparts) (now zones))) 0 (now column) ⌝ }
     requires { ⌜ place + 2 * length (now numbers) < 2 ^ 64 ⌝ }
     ensures { λ r. ⌜ AllZones (serviceOf (now (pots .entry)) (now (numbers .entry)) (now (zoneparts .entry)) (now (nonzoneparts .entry)) (now (zones .entry))) place (now (column .exit)) r ⌝ }
@@ -130,7 +130,7 @@ fn charge_all(
     column: &mut [u64],
     place: u64,
 ) -> Answer
-    requires { ⌜ Lent (now pots) (now numbers) (now zoneparts) (now nonzoneparts) (now zones) ⌝ }
+    requires { ⌜ ServiceTogether (now pots) (now numbers) (now zoneparts) (now nonzoneparts) (now zones) ⌝ }
     requires { ⌜ Summed (zoneSides (serviceOf (now pots) (now numbers) (now zoneparts) (now nonzoneparts) (now zones))) 0 (now column) ⌝ }
     requires { ⌜ place + 2 * length (now numbers) < 2 ^ 64 ⌝ }
     ensures { λ r. ⌜ AllCharged (serviceOf (now (pots .entry)) (now (numbers .entry)) (now (zoneparts .entry)) (now (nonzoneparts .entry)) (now (zones .entry))) place (now (column .exit)) r ⌝ }
@@ -157,7 +157,7 @@ pub fn charge(
     column: &mut [u64],
     place: u64,
 ) -> Answer
-    requires { ⌜ Lent (now pots) (now numbers) (now zoneparts) (now nonzoneparts) (now zones) ⌝ }
+    requires { ⌜ ServiceTogether (now pots) (now numbers) (now zoneparts) (now nonzoneparts) (now zones) ⌝ }
     requires { ⌜ length (now zoneparts) ≤ length (now column) ⌝ }
     requires { ⌜ place + 2 * length (now numbers) < 2 ^ 64 ⌝ }
     ensures { λ r. ⌜ Served (serviceOf (now (pots .entry)) (now (numbers .entry)) (now (zoneparts .entry)) (now (nonzoneparts .entry)) (now (zones .entry))) place (now (column .entry)) (now (column .exit)) r ⌝ }

@@ -1,85 +1,101 @@
 -- The answer is a stage: it passes where the input is good and every division is fine, and stops at the first look that is not.
 -- Assumes nothing.
 use mathlib.Core.Path.{_≡_, refl, sym, ap, subst, _∙_}
-use mathlib.Core.Logic.{_≢_, inl, inr, ⊎-elim}
-use Prim.Native.Nat.{ℕ}
+use mathlib.Core.Logic.{_↔_, _≢_, inl, inr, ⊎-elim}
+use Prim.Native.Nat.{ℕ, _<_}
 use native.Mathlib.Nat.{zero-add}
 use Rattle.answer.specs.declared.Answer.{Answer}
-use Rattle.answer.specs.Numbers.{divisions}
+use Rattle.answer.specs.Numbers.{DIVISIONS}
 use Rattle.answer.specs.Turns.{accepted, refuse}
 use Rattle.answer.proofs.Turns.{zero-or-not, refuse-none, then-on}
-use Rattle.division.proofs.Laws.{size-why}
+use Rattle.lists.specs.Sums.{total}
+use Rattle.division.proofs.Laws.{size-why, size-exactly}
 use Rattle.groups.specs.Groups as groups
 use Rattle.groups.proofs.Laws.{accepted-all, all-accepted, RefusedGroup, refused-at}
 use Rattle.service.specs.Turn as service
 use Rattle.service.proofs.Turns.{accepted-fine, fine-accepted, refused-where}
-use Rattle.tables.specs.Limits.{blackStart, reactive}
+use Rattle.tables.specs.Columns.{zoneNumber}
+use Rattle.month.specs.Limits.{blackStart, reactive}
 use Rattle.tables.proofs.Stages.{Stage, passed, stopped, passed-on, then-stage, refuse-stage}
 use Rattle.judgement.specs.Judgement.{judged}
 use Rattle.judgement.proofs.Judging.{judged-good, judged-why}
 use Rattle.judgement.proofs.Reasons.{good-unrefused}
 use Rattle.pool.specs.Input.{Input, zoneCount}
-use Rattle.pool.specs.Network.{networkPots, nonzoneRefusal}
+use Rattle.pool.specs.Network.{chargesIn, networkPots, requirements, networkNonzoneRefusal}
 use Rattle.pool.specs.Services.{serviceIn}
 use Rattle.settlement.specs.Settled.{
+  headOf,
   networkPlace,
-  nonzonePlace,
+  networkNonzonePlace,
   blackStartPlace,
   reactivePlace,
   networkInTurn,
   divisionsInTurn,
   answerOf,
 }
-use Rattle.settlement.specs.Accepted.{Good, ZonesFine, NetworkFine, Accepted}
+use Rattle.settlement.specs.Accepted.{GoodInput, FineNetworkZone, FineNetworkNonzone, ZonesFine, NetworkFine, Accepted}
 use Rattle.settlement.specs.Refused.{Refused, by-tables, at-zone, at-nonzone, in-black-start, in-reactive}
 
-pub network-accepts : (m : Input) → NetworkFine m → networkInTurn m ≡ accepted
-unfolding networkInTurn
-network-accepts m fine =
-    then-on (all-accepted (networkPots m) networkPlace (fine .zones-fine))
-    (refuse-none (nonzoneRefusal m) divisions (nonzonePlace (zoneCount m)) (fine .nonzone-fine))
+-- a network division is not refused exactly where its sizes are fine
+module _ (m : Input) where
+  pub zone-exactly : (z : ℕ) → (groups.groupRefusal (networkPots m) z ≡ 0) ↔ FineNetworkZone m z
+  unfolding groups.groupRefusal
+  zone-exactly z = size-exactly (chargesIn m (zoneNumber (m .tables .zones) z)) (total (groups.weightsIn (networkPots m) z))
+
+  pub nonzone-exactly : (networkNonzoneRefusal m ≡ 0) ↔ FineNetworkNonzone m
+  unfolding networkNonzoneRefusal
+  nonzone-exactly = size-exactly (chargesIn m 0) (total (requirements m))
+
+  pub zones-pass : (z : ℕ) → ZonesFine m z → (y : ℕ) → y < z → groups.groupRefusal (networkPots m) y ≡ 0
+  zones-pass z fine y b = zone-exactly y .1 (fine y b)
+
+  pub network-accepts : NetworkFine m → networkInTurn m ≡ accepted
+  unfolding networkInTurn
+  network-accepts fine =
+      then-on (all-accepted (networkPots m) networkPlace (zones-pass (zoneCount m) (fine .zones-fine)))
+      (refuse-none (networkNonzoneRefusal m) DIVISIONS (networkNonzonePlace (zoneCount m)) (nonzone-exactly .1 (fine .nonzone-fine)))
 
 module _ (m : Input) (lentCharges lentCredits : ℕ) where
   abbrev Why : Answer → Type 0
   Why = Refused m lentCharges lentCredits
 
-  tables-stage : Stage (Good m lentCharges lentCredits) Why (judged (m .month) (m .days) (m .nonzone) (m .tables) lentCharges lentCredits)
+  tables-stage : Stage (GoodInput m lentCharges lentCredits) Why (judged (headOf m) (m .tables) lentCharges lentCredits)
   tables-stage =
       ⊎-elim
       (λ (z : _ ≡ 0).
-      let good : Good m lentCharges lentCredits = judged-good (m .month) (m .days) (m .nonzone) (m .tables) lentCharges lentCredits z in
-      passed (good-unrefused (m .month) (m .days) (m .nonzone) (m .tables) lentCharges lentCredits good) good)
-      (λ (d : _ ≢ 0). stopped d (by-tables (judged-why (m .month) (m .days) (m .nonzone) (m .tables) lentCharges lentCredits d)))
-      (zero-or-not (judged (m .month) (m .days) (m .nonzone) (m .tables) lentCharges lentCredits .number))
+      let good : GoodInput m lentCharges lentCredits = judged-good (headOf m) (m .tables) lentCharges lentCredits z in
+      passed (good-unrefused (headOf m) (m .tables) lentCharges lentCredits good) good)
+      (λ (d : _ ≢ 0). stopped d (by-tables (judged-why (headOf m) (m .tables) lentCharges lentCredits d)))
+      (zero-or-not (judged (headOf m) (m .tables) lentCharges lentCredits .number))
 
-  module _ (good : Good m lentCharges lentCredits) where
+  module _ (good : GoodInput m lentCharges lentCredits) where
     zones-stage : Stage (ZonesFine m (zoneCount m)) Why (groups.groupsInTurn (networkPots m) networkPlace)
-    unfolding groups.refusal
+    unfolding groups.groupRefusal
     zones-stage =
         ⊎-elim
         (λ (z : groups.groupsInTurn (networkPots m) networkPlace .number ≡ 0).
-        let fine : ZonesFine m (zoneCount m) = accepted-all (networkPots m) networkPlace z in
-        passed (all-accepted (networkPots m) networkPlace fine) fine)
+        let all = accepted-all (networkPots m) networkPlace z in
+        passed (all-accepted (networkPots m) networkPlace all) (λ y b. zone-exactly m y .0 (all y b)))
         (λ (d : groups.groupsInTurn (networkPots m) networkPlace .number ≢ 0).
         let g : RefusedGroup (networkPots m) networkPlace (groups.groupsInTurn (networkPots m) networkPlace) = refused-at (networkPots m) networkPlace d in
         stopped d
-        (at-zone good (g .group) (groups.refusal (networkPots m) (g .group)) (g .one-of-them) (g .earlier-fine)
+        (at-zone good (g .group) (groups.groupRefusal (networkPots m) (g .group)) (g .one-of-them) (λ y b. zone-exactly m y .0 (g .earlier-fine y b))
         (size-why _ _ _ refl (λ e. d (g .its-number ∙ e)))
         (λ i. record { number = g .its-number i; table = g .its-table i; row = (g .its-place ∙ zero-add (g .group)) i })))
         (zero-or-not (groups.groupsInTurn (networkPots m) networkPlace .number))
 
-    nonzone-stage : ZonesFine m (zoneCount m) → Stage (NetworkFine m) Why (refuse (nonzoneRefusal m) divisions (nonzonePlace (zoneCount m)))
-    unfolding nonzoneRefusal
+    nonzone-stage : ZonesFine m (zoneCount m) → Stage (NetworkFine m) Why (refuse (networkNonzoneRefusal m) DIVISIONS (networkNonzonePlace (zoneCount m)))
+    unfolding networkNonzoneRefusal
     nonzone-stage fine =
-        refuse-stage (nonzoneRefusal m) divisions (zoneCount m) (λ z. record { zones-fine = fine; nonzone-fine = z })
-        (λ d. at-nonzone good (nonzoneRefusal m) fine (size-why _ _ _ refl d) refl)
+        refuse-stage (networkNonzoneRefusal m) DIVISIONS (zoneCount m) (λ z. record { zones-fine = fine; nonzone-fine = nonzone-exactly m .0 z })
+        (λ d. at-nonzone good (networkNonzoneRefusal m) fine (size-why _ _ _ refl d) refl)
 
     service-stage : (s place : ℕ) → ((r : Answer) → service.RefusedAt (serviceIn m s) place r → Why r)
-        → Stage (service.Accepted (serviceIn m s)) Why (service.serviceInTurn (serviceIn m s) place)
+        → Stage (service.ServiceFine (serviceIn m s)) Why (service.serviceInTurn (serviceIn m s) place)
     service-stage s place because =
         ⊎-elim
         (λ (z : service.serviceInTurn (serviceIn m s) place .number ≡ 0).
-        let fine : service.Accepted (serviceIn m s) = accepted-fine (serviceIn m s) place z in
+        let fine : service.ServiceFine (serviceIn m s) = accepted-fine (serviceIn m s) place z in
         passed (fine-accepted (serviceIn m s) place fine) fine)
         (λ (d : service.serviceInTurn (serviceIn m s) place .number ≢ 0). stopped d (because _ (refused-where (serviceIn m s) place d)))
         (zero-or-not (service.serviceInTurn (serviceIn m s) place .number))
@@ -87,7 +103,7 @@ module _ (m : Input) (lentCharges lentCredits : ℕ) where
     divisions-stage : Stage (Accepted m lentCharges lentCredits) Why (divisionsInTurn m)
     unfolding divisionsInTurn networkInTurn
     divisions-stage =
-        then-stage {G = NetworkFine m × service.Accepted (serviceIn m blackStart)}
+        then-stage {G = NetworkFine m × service.ServiceFine (serviceIn m blackStart)}
         (then-stage
         (then-stage zones-stage nonzone-stage)
         (λ network.
@@ -101,8 +117,8 @@ module _ (m : Input) (lentCharges lentCredits : ℕ) where
           network-fine = p .0;
           service-fine = λ s i.
               ⊎-elim
-              (λ (q : s ≡ blackStart). subst (λ k. service.Accepted (serviceIn m k)) (sym q) (p .1))
-              (λ (q : s ≡ reactive). subst (λ k. service.Accepted (serviceIn m k)) (sym q) fine)
+              (λ (q : s ≡ blackStart). subst (λ k. service.ServiceFine (serviceIn m k)) (sym q) (p .1))
+              (λ (q : s ≡ reactive). subst (λ k. service.ServiceFine (serviceIn m k)) (sym q) fine)
               i;
         })
         (service-stage reactive (reactivePlace (zoneCount m)) (λ r. in-reactive good (p .0) (p .1))))
@@ -120,8 +136,8 @@ module _ (m : Input) (lentCharges lentCredits : ℕ) where
       elim answer-stage as (λ s. Why (answerOf m lentCharges lentCredits))
       [ passed q all ↦ absurd (bad (ap (λ (a : Answer). a .number) q)) | stopped d why ↦ why ]
 
-  pub tables-accept : Good m lentCharges lentCredits → judged (m .month) (m .days) (m .nonzone) (m .tables) lentCharges lentCredits ≡ accepted
-  tables-accept = good-unrefused (m .month) (m .days) (m .nonzone) (m .tables) lentCharges lentCredits
+  pub tables-accept : GoodInput m lentCharges lentCredits → judged (headOf m) (m .tables) lentCharges lentCredits ≡ accepted
+  tables-accept = good-unrefused (headOf m) (m .tables) lentCharges lentCredits
 
   pub accepted-answer : Accepted m lentCharges lentCredits → answerOf m lentCharges lentCredits ≡ accepted
   unfolding answerOf divisionsInTurn

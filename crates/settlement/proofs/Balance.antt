@@ -18,7 +18,7 @@ use Rattle.judgement.specs.Good.{Known}
 use Rattle.pool.specs.Input.{Input, zoneCount, ownerCount, unitCount, accountCount}
 use Rattle.pool.specs.Network.{networkCharge, chargesIn}
 use Rattle.pool.specs.Services.{creditIn, serviceCredit, zonePot}
-use Rattle.settlement.specs.Accepted.{Good}
+use Rattle.settlement.specs.Accepted.{GoodInput}
 use Rattle.settlement.proofs.Keys.{row-of, no-row-of}
 use Rattle.settlement.proofs.Ranges.{zones-ascend, owners-ascend}
 
@@ -28,7 +28,7 @@ by-number : (n k : ℕ) (numberOf value number : ℕ → ℕ)
 unfolding sumWhere
 by-number n k numberOf value number = sum-swap k n (λ j i. when (eqb (numberOf i) (number j)) (value i))
 
-module _ (m : Input) (lentCharges lentCredits : ℕ) (good : Good m lentCharges lentCredits) where
+module _ (m : Input) (lentCharges lentCredits : ℕ) (good : GoodInput m lentCharges lentCredits) where
   open Tables (m .tables) using (zones, owners, units, accounts)
 
   -- an amount of a zone that has a row is one zone's

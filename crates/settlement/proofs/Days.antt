@@ -14,13 +14,11 @@ use Rattle.lists.proofs.Ranks.{true-or-false, lt-or-le}
 use Rattle.tables.specs.declared.Table.the-variants.{Loads}
 use Rattle.tables.specs.Shape.{Tables}
 use Rattle.tables.specs.Columns.{accountNumber, loadAccount, loadDay, loadContribution}
-use Rattle.judgement.specs.Good.{Above}
-use Rattle.judgement.proofs.Promises.{strictly-ascend}
 use Rattle.pool.specs.Input.{Input, loadCount}
-use Rattle.pool.specs.Accounts.{contributions}
-use Rattle.settlement.specs.Accepted.{Good}
-use Rattle.settlement.specs.Days.{contributionOn}
-use Rattle.settlement.proofs.Keys.{row-of}
+use Rattle.pool.specs.Accounts.{contributions, contributionOn}
+use Rattle.settlement.specs.Accepted.{GoodInput}
+use Rattle.settlement.proofs.Keys.{AscendsByDay, row-of}
+use Rattle.settlement.proofs.Ranges.{loads-ascend}
 
 -- a value on a day 1..days is what all days have of it, where it counts
 over-days : (days day v : ℕ) → 1 ≤ day → day ≤ days → (t : Bool) → sumTo days (λ d. when t (when (eqb day (d + 1)) v)) ≡ when t v
@@ -49,7 +47,7 @@ module _ (m : Input) (a : ℕ) where
   unfolding contributionOn sumWhere
   missing-day day none = sum-zero (loadCount m) _ (λ i b. elsewhere day i (none i b))
 
-  module _ (lentCharges lentCredits : ℕ) (good : Good m lentCharges lentCredits) where
+  module _ (lentCharges lentCredits : ℕ) (good : GoodInput m lentCharges lentCredits) where
     pub day-by-day : contributions m a ≡ sumTo (m .days) (λ d. contributionOn m a (d + 1))
     unfolding contributions contributionOn sumWhere
     day-by-day =
@@ -69,8 +67,8 @@ module _ (m : Input) (a : ℕ) where
         (λ (l : j ≤ i). let less : j < i = omega (arith, d) in ⊎-elim (λ p. omega arith) (λ p. omega arith) (up j i less b))
         (lt-or-le i j)
       where
-        up : (x y : ℕ) → x < y → y < loadCount m → Above (m .tables) Loads x y
-        up = strictly-ascend (m .days) (m .tables) Loads (good .tables Loads)
+        up : AscendsByDay (loadCount m) (loadAccount loads) (loadDay loads)
+        up = loads-ascend m lentCharges lentCredits good
 
     pub load-on-its-day : (i : ℕ) → i < loadCount m → loadAccount loads i ≡ accountNumber accounts a
         → contributionOn m a (loadDay loads i) ≡ loadContribution loads i

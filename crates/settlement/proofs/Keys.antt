@@ -64,9 +64,12 @@ one-row-at-most (suc n) key f x most up within =
     rw e (omega (arith, one-row-at-most n key f x most (λ i j l h. up i j l (le-step h)) (λ i b. within i (le-step b)))))
     (true-or-false (eqb (key n) x))
 
+-- the rows ascend by account, then day
+abbrev pub AscendsByDay : ℕ → (ℕ → ℕ) → (ℕ → ℕ) → Type 0
+AscendsByDay n account day = (i j : ℕ) → i < j → j < n → (account i < account j) ⊎ ((account i ≡ account j) × (day i < day j))
+
 -- Rows with an account and a day each, of which no two have both in common: an account has a row for each day at most.
-module _ (n : ℕ) (account day f : ℕ → ℕ)
-    (up : (i j : ℕ) → i < j → j < n → (account i < account j) ⊎ ((account i ≡ account j) × (day i < day j)))
+module _ (n : ℕ) (account day f : ℕ → ℕ) (up : AscendsByDay n account day)
     (from-one : (i : ℕ) → i < n → 1 ≤ day i) (within : (i : ℕ) → i < n → f i ≤ mostLoad) (x : ℕ) where
   pub one-row-a-day : (k : ℕ) → k ≤ n → (last : ℕ) → ((i : ℕ) → i < k → account i ≡ x → day i ≤ last)
       → sumWhere k account f x ≤ last * mostLoad

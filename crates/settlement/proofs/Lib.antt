@@ -1,5 +1,6 @@
 pub mod Keys
 pub mod Settling
+pub mod Laying
 pub mod Writing
 pub mod Ranges
 pub mod Days

@@ -6,30 +6,25 @@ use mathlib.Core.Logic.{_↔_, _≢_, inl, inr}
 use Prim.Native.Nat.{ℕ, _+_, _<_, _*_, _≤_}
 use native.Mathlib.Omega.{arith}
 use mathlib.Core.List.{List}
-use lib.Dec.{eqb}
-use borrow.Author.Tests.{eq-eqb}
-use Rattle.lists.specs.Sums.{sumTo, at, total, sumWhere, count}
-use Rattle.lists.specs.Entries.{kept}
+use Rattle.lists.specs.Sums.{sumTo, at, total, sumWhere}
 use Rattle.lists.proofs.Sums.{where-eq}
 use Rattle.answer.specs.declared.Answer.{Answer}
 use Rattle.answer.specs.Numbers.{BIG, BASE}
 use Rattle.answer.specs.Turns.{accepted}
-use Rattle.division.specs.Shares.{shares}
-use Rattle.groups.specs.Groups.{weightsIn, alone, amount, refusal}
+use Rattle.groups.specs.Groups.{weightsIn, amount, groupRefusal}
 use Rattle.groups.proofs.Members.{listed-add-up, listed-none}
-use Rattle.groups.proofs.Laws.{pots-divided, pot-divided, members-have-all, amount-alone, weightless-none-at-all}
+use Rattle.groups.proofs.Laws.{pots-divided, pot-divided, members-have-all, weightless-none-at-all}
 use Rattle.service.specs.Service.{zoneSide, nonzoneSide, nonzonePot, zoneShare, nonzoneShare}
 use Rattle.service.specs.Turn.{splitRefusal, shareRefusal}
 use Rattle.service.specs.Turn as turn
 use Rattle.division.specs.Refused.{FineSize}
-use Rattle.division.proofs.Laws.{size-exactly}
 use Rattle.service.proofs.Promises as service
 use Rattle.tables.specs.Shape.{chargeWidth, creditWidth, Tables}
 use Rattle.tables.specs.Columns.{zoneNumber, ownerNumber, ownerZone, ownerRequirement, unitOwner, accountZone, zoneRate, accountNumber, loadAccount, loadDay, loadContribution, reservationAccount, reservationReserved, reservationCurtailed}
-use Rattle.tables.specs.Limits.{blackStart, reactive}
+use Rattle.month.specs.Limits.{blackStart, reactive}
 use Rattle.pool.specs.Input.{Input, zoneCount, ownerCount, unitCount, accountCount, loadCount, reservationCount}
-use Rattle.pool.specs.Accounts.{contributions, reserved, curtailed, accountUse}
-use Rattle.pool.specs.Network.{chargesIn, networkPots, networkCredit, requirements, nonzoneCredit, nonzoneRefusal, rate}
+use Rattle.pool.specs.Accounts.{contributions, reserved, curtailed, accountUse, contributionOn}
+use Rattle.pool.specs.Network.{chargesIn, networkPots, networkCredit, requirements, nonzoneCredit, networkNonzoneRefusal, rate}
 use Rattle.pool.specs.Services.{creditIn, serviceCredit, zonePot, serviceIn, serviceCharge}
 use Rattle.settlement.specs.Settled.{answerOf, chargeOf, creditOf, Settled}
 use Rattle.settlement.specs.Columns.{
@@ -42,12 +37,12 @@ use Rattle.settlement.specs.Columns.{
   creditedReactive,
 }
 use Rattle.settlement.specs.Accepted.{IsService, Accepted}
-use Rattle.settlement.proofs.Accepting.{answer-accepted, accepted-answer}
+use Rattle.settlement.specs.Paid.{amongAccounts, amongOwners, Paid, Credited}
+use Rattle.settlement.proofs.Accepting.{zone-exactly, nonzone-exactly, answer-accepted, accepted-answer}
 use Rattle.settlement.proofs.Balance as balance
 use Rattle.settlement.specs.Refused.{Refused, Places}
 use Rattle.settlement.proofs.Refusing as refusing
 use Rattle.settlement.proofs.Written as written
-use Rattle.settlement.specs.Days.{contributionOn}
 use Rattle.settlement.proofs.Keys.{no-entry-of}
 use Rattle.settlement.proofs.Days as days
 use Rattle.settlement.proofs.Ranges as ranges
@@ -68,13 +63,11 @@ module _ (m : Input) (lentCharges lentCredits : ℕ) where
 
 -- a network division is fine exactly where pot and weights are within their limits and a pot has a base
 pub zone-fine-exactly : (m : Input) (z : ℕ)
-    → (refusal (networkPots m) z ≡ 0) ↔ FineSize (chargesIn m (zoneNumber (m .tables .zones) z)) (total (weightsIn (networkPots m) z))
-unfolding refusal
-zone-fine-exactly m z = size-exactly (chargesIn m (zoneNumber (m .tables .zones) z)) (total (weightsIn (networkPots m) z))
+    → (groupRefusal (networkPots m) z ≡ 0) ↔ FineSize (chargesIn m (zoneNumber (m .tables .zones) z)) (total (weightsIn (networkPots m) z))
+zone-fine-exactly = zone-exactly
 
-pub nonzone-fine-exactly : (m : Input) → (nonzoneRefusal m ≡ 0) ↔ FineSize (chargesIn m 0) (total (requirements m))
-unfolding nonzoneRefusal
-nonzone-fine-exactly m = size-exactly (chargesIn m 0) (total (requirements m))
+pub nonzone-fine-exactly : (m : Input) → (networkNonzoneRefusal m ≡ 0) ↔ FineSize (chargesIn m 0) (total (requirements m))
+nonzone-fine-exactly = nonzone-exactly
 
 -- the places of the services' divisions are the paper's
 pub places-are-the-papers : (m : Input) → Places m
@@ -126,16 +119,16 @@ module _ {m : Input} {lentCharges lentCredits : ℕ} (all : Accepted m lentCharg
 
   -- an owner without requirement has no network credit
   pub no-requirement-no-credit : (o : ℕ) → o < ownerCount m → ownerRequirement owners o ≡ 0 → (networkCredit m o ≡ 0) × (nonzoneCredit m o ≡ 0)
-  unfolding networkCredit nonzoneCredit requirements nonzoneRefusal
+  unfolding networkCredit nonzoneCredit requirements networkNonzoneRefusal
   no-requirement-no-credit o b e = (
-    weightless-none-at-all (networkPots m) (all .network-fine .zones-fine) o b e,
-    listed-none (chargesIn m 0) (ownerCount m) (ownerRequirement owners) (all .network-fine .nonzone-fine) o b e,
+    weightless-none-at-all (networkPots m) (parts.zones-unrefused all) o b e,
+    listed-none (chargesIn m 0) (ownerCount m) (ownerRequirement owners) (nonzone-exactly m .1 (all .network-fine .nonzone-fine)) o b e,
   )
 
   -- in each zone the network charges of its accounts add up to what its owners have from it ..
   pub zone-charges-are-credits-from-it : (z : ℕ) → z < zoneCount m
       → chargesIn m (zoneNumber zones z) ≡ sumTo (ownerCount m) (λ o. amount (networkPots m) z o)
-  zone-charges-are-credits-from-it z b = sym (pot-divided (networkPots m) z (all .network-fine .zones-fine z b))
+  zone-charges-are-credits-from-it z b = sym (pot-divided (networkPots m) z (parts.zones-unrefused all z b))
 
   -- .. which is the network credit of each
   pub network-credit-is-from-own-zone : (o z : ℕ) → o < ownerCount m → z < zoneCount m → ownerZone owners o ≡ zoneNumber zones z
@@ -148,20 +141,20 @@ module _ {m : Input} {lentCharges lentCredits : ℕ} (all : Accepted m lentCharg
       → chargesIn m (zoneNumber zones z) ≡ sumWhere (ownerCount m) (ownerZone owners) (networkCredit m) (zoneNumber zones z)
   unfolding sumWhere
   zone-charges-are-credits z b =
-      sym (members-have-all (networkPots m) z (all .network-fine .zones-fine z b))
+      sym (members-have-all (networkPots m) z (parts.zones-unrefused all z b))
       ∙ where-eq (ownerCount m) (ownerZone owners) (amount (networkPots m) z) (zoneNumber zones z) (networkCredit m)
       (λ o h e. sym (parts.credit-from-own-zone all o z h b e))
 
   -- all zones' network charges add up to all network credits
   pub all-zone-charges-are-credits : sumTo (zoneCount m) (λ z. chargesIn m (zoneNumber zones z)) ≡ sumTo (ownerCount m) (networkCredit m)
   unfolding networkCredit
-  all-zone-charges-are-credits = sym (pots-divided (networkPots m) (all .network-fine .zones-fine))
+  all-zone-charges-are-credits = sym (pots-divided (networkPots m) (parts.zones-unrefused all))
 
   -- the network charges of zone 0 add up to all non-zone credits
   pub zone-0-charges-are-nonzone-credits : chargesIn m 0 ≡ sumTo (ownerCount m) (nonzoneCredit m)
-  unfolding nonzoneCredit requirements nonzoneRefusal
+  unfolding nonzoneCredit requirements networkNonzoneRefusal
   zone-0-charges-are-nonzone-credits =
-      sym (listed-add-up (chargesIn m 0) (ownerCount m) (ownerRequirement owners) (all .network-fine .nonzone-fine))
+      sym (listed-add-up (chargesIn m 0) (ownerCount m) (ownerRequirement owners) (nonzone-exactly m .1 (all .network-fine .nonzone-fine)))
 
   -- over the pool the same holds for black start and for reactive
   pub service-charges-are-credits : (s : ℕ) → IsService s → sumTo (accountCount m) (serviceCharge m s) ≡ sumTo (ownerCount m) (serviceCredit m s)
@@ -214,29 +207,25 @@ module _ {m : Input} {lentCharges lentCredits : ℕ} (all : Accepted m lentCharg
 
     -- the paper's words, "divided among that zone's accounts by use": the zone's accounts as a list of their own ..
     pub charge-among-zone-accounts : (a z : ℕ) → a < accountCount m → z < zoneCount m → accountZone accounts a ≡ zoneNumber zones z
-        → serviceCharge m s a
-        ≡ at (shares (zoneSide (serviceIn m s) z) (kept (accountCount m) (λ b. eqb (accountZone accounts b) (zoneNumber zones z)) (accountUse m)))
-        (count a (λ b. eqb (accountZone accounts b) (zoneNumber zones z)))
-    charge-among-zone-accounts a z b h e =
-        parts.pays-its-zone-side all s (all .service-fine s i) a z b h e ∙ parts.zone-side-alone all s (all .service-fine s i) a z b h e
+        → serviceCharge m s a ≡ amongAccounts m (zoneSide (serviceIn m s) z) (zoneNumber zones z) a
+    charge-among-zone-accounts a z b h e = parts.paid all a b .for-service s i .in-a-zone z h e
 
     -- .. and "divided among zone 0's accounts by use"
     pub charge-among-zone-0-accounts : (a : ℕ) → a < accountCount m → accountZone accounts a ≡ 0
-        → serviceCharge m s a
-        ≡ at (shares (nonzonePot (serviceIn m s)) (kept (accountCount m) (λ b. eqb (accountZone accounts b) 0) (accountUse m)))
-        (count a (λ b. eqb (accountZone accounts b) 0))
-    charge-among-zone-0-accounts a b e =
-        parts.pays-the-nonzone-pot all s (all .service-fine s i) a b e ∙ parts.nonzone-pot-alone all s (all .service-fine s i) a b e
+        → serviceCharge m s a ≡ amongAccounts m (nonzonePot (serviceIn m s)) 0 a
+    charge-among-zone-0-accounts a b e = parts.paid all a b .for-service s i .in-zone-0 e
 
   -- "divided among its owners by requirement": the zone's owners as a list of their own
   pub credit-among-zone-owners : (o z : ℕ) → o < ownerCount m → z < zoneCount m → ownerZone owners o ≡ zoneNumber zones z
-      → networkCredit m o
-      ≡ at (shares (chargesIn m (zoneNumber zones z)) (kept (ownerCount m) (λ p. eqb (ownerZone owners p) (zoneNumber zones z)) (ownerRequirement owners)))
-      (count o (λ p. eqb (ownerZone owners p) (zoneNumber zones z)))
-  unfolding alone
-  credit-among-zone-owners o z b h e =
-      parts.credit-from-own-zone all o z b h e
-      ∙ amount-alone (networkPots m) z (all .network-fine .zones-fine z h) o b (eq-eqb (ownerZone owners o) (zoneNumber zones z) e)
+      → networkCredit m o ≡ amongOwners m (chargesIn m (zoneNumber zones z)) (zoneNumber zones z) o
+  credit-among-zone-owners o z b h e = parts.credited all o b .of-its-zone z h e
+
+  -- all that an account pays, and all that an owner has, in these words
+  pub account-pays : (a : ℕ) → a < accountCount m → Paid m a
+  account-pays = parts.paid all
+
+  pub owner-is-credited : (o : ℕ) → o < ownerCount m → Credited m o
+  owner-is-credited = parts.credited all
 
 -- the balance of an accepted month in the words that were written: nothing is spoken of but these and the month's tables
 module _ {m : Input} {charges chargesAfter credits creditsAfter : List ℕ} {r : Answer} (settled : Settled m charges chargesAfter credits creditsAfter r)

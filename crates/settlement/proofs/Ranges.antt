@@ -5,40 +5,55 @@ use mathlib.Core.Bool.{true, false, cond}
 use Prim.Native.Nat.{ℕ, _*_, _^_, _≤_, _<_}
 use native.Mathlib.Nat.{le-refl, lt-of-le-of-lt}
 use native.Mathlib.Omega.{arith}
-use mathlib.Core.Path.{_≡_, sym}
+use mathlib.Core.Path.{_≡_, refl, sym}
 use mathlib.Core.Logic.{_≢_}
 use borrow.Author.Tests.{eq-eqb, ne-eqb}
 use lib.Dec.{eqb}
 use Rattle.lists.proofs.Sums.{sum-at-most, where-mono}
 use Rattle.tables.specs.declared.Table.{Table}
 use Rattle.tables.specs.declared.Table.the-variants.{Zones, Owners, Units, Accounts, Loads, Reservations}
-use Rattle.tables.specs.Shape.{rows, limit, Tables, wordsOf}
-use Rattle.tables.specs.Columns.{zoneNumber, zoneRate, ownerNumber, unitRequirement, accountNumber, accountZone, loadAccount, loadDay, loadContribution, reservationAccount, reservationReserved, reservationCurtailed}
+use Rattle.tables.specs.Shape.{rows, limit, keyColumns, Tables, wordsOf}
+use Rattle.tables.specs.Columns.{entry, zoneNumber, zoneRate, ownerNumber, unitRequirement, accountNumber, accountZone, loadAccount, loadDay, loadContribution, reservationAccount, reservationReserved, reservationCurtailed}
 use Rattle.judgement.specs.Good.{Above}
+use Rattle.judgement.proofs.Ascents.{first-above, load-above}
 use Rattle.judgement.proofs.Promises.{strictly-ascend}
-use Rattle.month.specs.Limits.{mostRate, mostLoad, mostEnergy, mostContributions}
+use Rattle.month.specs.Limits.{mostRate, mostLoad, mostEnergy}
+use Rattle.month.specs.Quantities.{mostContributions}
 use Rattle.month.proofs.Months.{InYear, month-within, twelfth-within}
+use Rattle.month.proofs.Promises.{month-exactly}
 use Rattle.month.proofs.Quantities as quantities
-use Rattle.pool.specs.Input.{Input, zoneCount, ownerCount, unitCount}
+use Rattle.pool.specs.Input.{Input, zoneCount, ownerCount, unitCount, loadCount, reservationCount}
 use Rattle.pool.specs.Accounts.{reservedOf, curtailedOf, contributions, reserved, curtailed, accountUse}
 use Rattle.pool.specs.Network.{zoneRateOf, rateOf, rate, networkCharge}
 use Rattle.pool.specs.Services.{unitCredit}
-use Rattle.settlement.specs.Accepted.{Good}
-use Rattle.pool.specs.Steps.{Fit, mostUse, mostCharge, mostCredit}
+use Rattle.columns.specs.Columns.{SumFits}
+use Rattle.pool.specs.Filled.{mostUse, mostCharge}
+use Rattle.services.specs.Settled.{mostCredit}
+use Rattle.settlement.specs.Accepted.{GoodInput}
 use Rattle.settlement.specs.Steps.{Settleable}
-use Rattle.settlement.proofs.Keys.{Ascends, entry-of, one-row-at-most, one-row-a-day}
+use Rattle.settlement.proofs.Keys.{Ascends, AscendsByDay, entry-of, one-row-at-most, one-row-a-day}
 
-module _ (m : Input) (lentCharges lentCredits : ℕ) (good : Good m lentCharges lentCredits) where
+module _ (m : Input) (lentCharges lentCredits : ℕ) (good : GoodInput m lentCharges lentCredits) where
   open Tables (m .tables) using (zones, owners, units, accounts, loads, reservations)
 
   above : (table : Table) (i j : ℕ) → i < j → j < rows table (wordsOf (m .tables) table) → Above (m .tables) table i j
   above table = strictly-ascend (m .days) (m .tables) table (good .tables table)
 
+  -- by the first entry, in a table of which that is the key
+  ascend : (table : Table) → keyColumns table ≡ 1 → Ascends (rows table (wordsOf (m .tables) table)) (entry table 0 (wordsOf (m .tables) table))
+  ascend table one i j l h = first-above (m .tables) table one i j .0 (above table i j l h)
+
   pub zones-ascend : Ascends (zoneCount m) (zoneNumber zones)
-  zones-ascend = above Zones
+  zones-ascend = ascend Zones refl
 
   pub owners-ascend : Ascends (ownerCount m) (ownerNumber owners)
-  owners-ascend = above Owners
+  owners-ascend = ascend Owners refl
+
+  reservations-ascend : Ascends (reservationCount m) (reservationAccount reservations)
+  reservations-ascend = ascend Reservations refl
+
+  pub loads-ascend : AscendsByDay (loadCount m) (loadAccount loads) (loadDay loads)
+  loads-ascend i j l h = load-above (m .tables) i j .0 (above Loads i j l h)
 
   -- the rate of an account is its zone's, or the non-zone rate ..
   pub rate-of-zone : (a z : ℕ) → z < zoneCount m → accountZone accounts a ≡ zoneNumber zones z → rate m a ≡ zoneRate zones z
@@ -59,17 +74,17 @@ module _ (m : Input) (lentCharges lentCredits : ℕ) (good : Good m lentCharges 
       → (reserved m a ≡ reservationReserved reservations r) × (curtailed m a ≡ reservationCurtailed reservations r)
   unfolding reserved curtailed
   reservation-of a r b e = (
-    entry-of (rows Reservations reservations) (reservationAccount reservations) (above Reservations) (reservationReserved reservations) r (accountNumber accounts a) b e,
-    entry-of (rows Reservations reservations) (reservationAccount reservations) (above Reservations) (reservationCurtailed reservations) r (accountNumber accounts a) b e,
+    entry-of (rows Reservations reservations) (reservationAccount reservations) reservations-ascend (reservationReserved reservations) r (accountNumber accounts a) b e,
+    entry-of (rows Reservations reservations) (reservationAccount reservations) reservations-ascend (reservationCurtailed reservations) r (accountNumber accounts a) b e,
   )
 
   pub in-year : InYear (m .month) (m .days)
-  in-year = month-within (m .month) (m .days) (good .frame .month-known)
+  in-year = month-within (m .month) (m .days) (month-exactly (m .month) (m .days) .1 (good .frame .month-known))
 
   pub contributions-within : (a : ℕ) → contributions m a ≤ mostContributions
   unfolding contributions
   contributions-within a =
-      let by-days = one-row-a-day (rows Loads loads) (loadAccount loads) (loadDay loads) (loadContribution loads) (above Loads)
+      let by-days = one-row-a-day (rows Loads loads) (loadAccount loads) (loadDay loads) (loadContribution loads) loads-ascend
       (λ i b. good .tables Loads i b .in-range .day .least) (λ i b. good .tables Loads i b .in-range .contribution .most)
       (accountNumber accounts a) (rows Loads loads) (le-refl (rows Loads loads)) (m .days)
       (λ i b e. good .tables Loads i b .in-range .day .most) in
@@ -78,7 +93,7 @@ module _ (m : Input) (lentCharges lentCredits : ℕ) (good : Good m lentCharges 
   pub reserved-of-within : (account : ℕ) → reservedOf reservations account ≤ mostEnergy
   reserved-of-within account =
       one-row-at-most (rows Reservations reservations) (reservationAccount reservations) (reservationReserved reservations) account mostEnergy
-      (above Reservations) (λ i b. good .tables Reservations i b .in-range .reserved .most)
+      reservations-ascend (λ i b. good .tables Reservations i b .in-range .reserved .most)
 
   pub curtailed-of-within : (account : ℕ) → curtailedOf reservations account ≤ reservedOf reservations account
   curtailed-of-within account =
@@ -120,7 +135,7 @@ module _ (m : Input) (lentCharges lentCredits : ℕ) (good : Good m lentCharges 
 
   -- every figure of a good month can be found, and added up
   fit : (table : Table) (most : ℕ) (value : ℕ → ℕ) → limit table * most < 2 ^ 64
-      → ((i : ℕ) → i < rows table (wordsOf (m .tables) table) → value i ≤ most) → Fit (rows table (wordsOf (m .tables) table)) value
+      → ((i : ℕ) → i < rows table (wordsOf (m .tables) table) → value i ≤ most) → SumFits (rows table (wordsOf (m .tables) table)) value
   fit table most value fits within =
       lt-of-le-of-lt (sum-at-most (rows table (wordsOf (m .tables) table)) (limit table) most value (good .frame .counted table .few) within) fits
 

@@ -7,7 +7,7 @@ use native.Mathlib.Nat.{zero-add}
 use native.Mathlib.Omega.{arith}
 use Rattle.lists.specs.Sums.{total}
 use Rattle.answer.specs.declared.Answer.{Answer}
-use Rattle.answer.specs.Numbers.{divisions}
+use Rattle.answer.specs.Numbers.{DIVISIONS}
 use Rattle.answer.specs.Turns.{refuse, refusal}
 use Rattle.answer.proofs.Turns.{refuse-none, refuse-some, refuse-number, turns-stop, then-on, then-stays}
 use Rattle.division.specs.Refused.{SizeRefused}
@@ -17,22 +17,22 @@ use Rattle.groups.proofs.Laws.{all-accepted}
 use Rattle.service.specs.Turn as service
 use Rattle.service.proofs.Turns.{fine-accepted, refused-exactly}
 use Rattle.tables.specs.Columns.{zoneNumber}
-use Rattle.tables.specs.Limits.{blackStart, reactive}
+use Rattle.month.specs.Limits.{blackStart, reactive}
 use Rattle.judgement.proofs.Reasons as judgement
 use Rattle.pool.specs.Input.{Input, zoneCount}
-use Rattle.pool.specs.Network.{chargesIn, networkPots, requirements, nonzoneRefusal}
+use Rattle.pool.specs.Network.{chargesIn, networkPots, requirements, networkNonzoneRefusal}
 use Rattle.pool.specs.Services.{serviceIn}
-use Rattle.settlement.specs.Settled.{networkPlace, nonzonePlace, blackStartPlace, reactivePlace, networkInTurn, divisionsInTurn, answerOf}
+use Rattle.settlement.specs.Settled.{headOf, networkPlace, networkNonzonePlace, blackStartPlace, reactivePlace, networkInTurn, divisionsInTurn, answerOf}
 use Rattle.settlement.specs.Accepted.{ZonesFine}
 use Rattle.settlement.specs.Refused.{Refused, by-tables, at-zone, at-nonzone, in-black-start, in-reactive, Places}
-use Rattle.settlement.proofs.Accepting.{answer-why, tables-accept, network-accepts}
+use Rattle.settlement.proofs.Accepting.{zones-pass, answer-why, tables-accept, network-accepts}
 
 module _ (m : Input) (lentCharges lentCredits : ℕ) where
   abbrev zones-answer : Answer
   zones-answer = groups.groupsInTurn (networkPots m) networkPlace
 
   abbrev nonzone-answer : Answer
-  nonzone-answer = refuse (nonzoneRefusal m) divisions (nonzonePlace (zoneCount m))
+  nonzone-answer = refuse (networkNonzoneRefusal m) DIVISIONS (networkNonzonePlace (zoneCount m))
 
   abbrev black-start-answer : Answer
   black-start-answer = service.serviceInTurn (serviceIn m blackStart) (blackStartPlace (zoneCount m))
@@ -41,26 +41,26 @@ module _ (m : Input) (lentCharges lentCredits : ℕ) where
   reactive-answer = service.serviceInTurn (serviceIn m reactive) (reactivePlace (zoneCount m))
 
   -- the divisions of the zones stop at the first that is not fine
-  zone-stops : (z n : ℕ) → z < zoneCount m → ZonesFine m z → groups.refusal (networkPots m) z ≡ n → n ≢ 0 → zones-answer ≡ refusal n divisions z
+  zone-stops : (z n : ℕ) → z < zoneCount m → ZonesFine m z → groups.groupRefusal (networkPots m) z ≡ n → n ≢ 0 → zones-answer ≡ refusal n DIVISIONS z
   unfolding groups.groupsInTurn
   zone-stops z n b before e d =
-      turns-stop (λ y. refuse (groups.refusal (networkPots m) y) divisions (networkPlace + y)) (zoneCount m) z b
-      (λ y l. refuse-none (groups.refusal (networkPots m) y) divisions (networkPlace + y) (before y l))
-      (λ o. d (sym e ∙ sym (refuse-number (groups.refusal (networkPots m) z) divisions (networkPlace + z)) ∙ o))
-      ∙ ap₂ (λ k row. refuse k divisions row) e (zero-add z)
-      ∙ refuse-some n divisions z d
+      turns-stop (λ y. refuse (groups.groupRefusal (networkPots m) y) DIVISIONS (networkPlace + y)) (zoneCount m) z b
+      (λ y l. refuse-none (groups.groupRefusal (networkPots m) y) DIVISIONS (networkPlace + y) (zones-pass m z before y l))
+      (λ o. d (sym e ∙ sym (refuse-number (groups.groupRefusal (networkPots m) z) DIVISIONS (networkPlace + z)) ∙ o))
+      ∙ ap₂ (λ k row. refuse k DIVISIONS row) e (zero-add z)
+      ∙ refuse-some n DIVISIONS z d
 
   zone-is : (z n : ℕ) → SizeRefused (chargesIn m (zoneNumber (m .tables .zones) z)) (total (groups.weightsIn (networkPots m) z)) n
-      → (groups.refusal (networkPots m) z ≡ n) × (n ≢ 0)
-  unfolding groups.refusal
+      → (groups.groupRefusal (networkPots m) z ≡ n) × (n ≢ 0)
+  unfolding groups.groupRefusal
   zone-is z n = why-size (chargesIn m (zoneNumber (m .tables .zones) z)) (total (groups.weightsIn (networkPots m) z)) n
 
-  nonzone-is : (n : ℕ) → SizeRefused (chargesIn m 0) (total (requirements m)) n → (nonzoneRefusal m ≡ n) × (n ≢ 0)
-  unfolding nonzoneRefusal
+  nonzone-is : (n : ℕ) → SizeRefused (chargesIn m 0) (total (requirements m)) n → (networkNonzoneRefusal m ≡ n) × (n ≢ 0)
+  unfolding networkNonzoneRefusal
   nonzone-is n = why-size (chargesIn m 0) (total (requirements m)) n
 
   why-number : (r : Answer) → Refused m lentCharges lentCredits r → r .number ≢ 0
-  why-number r (by-tables why) = judgement.why-number (m .month) (m .days) (m .nonzone) (m .tables) lentCharges lentCredits r why
+  why-number r (by-tables why) = judgement.why-number (headOf m) (m .tables) lentCharges lentCredits r why
   why-number r (at-zone good z n b before why e) = λ o. zone-is z n why .1 (sym (ap (λ (a : Answer). a .number) e) ∙ o)
   why-number r (at-nonzone good n before why e) = λ o. nonzone-is n why .1 (sym (ap (λ (a : Answer). a .number) e) ∙ o)
   why-number r (in-black-start good network why) =
@@ -75,7 +75,7 @@ module _ (m : Input) (lentCharges lentCredits : ℕ) where
     where
       go : Refused m lentCharges lentCredits r → r .number ≢ 0 → answerOf m lentCharges lentCredits ≡ r
       go (by-tables w) d =
-          then-stays d (divisionsInTurn m) (judgement.why-judged (m .month) (m .days) (m .nonzone) (m .tables) lentCharges lentCredits r w)
+          then-stays d (divisionsInTurn m) (judgement.why-judged (headOf m) (m .tables) lentCharges lentCredits r w)
       go (at-zone good z n b before w e) d =
           then-on (tables-accept m lentCharges lentCredits good)
           (then-stays d reactive-answer
@@ -85,8 +85,8 @@ module _ (m : Input) (lentCharges lentCredits : ℕ) where
           then-on (tables-accept m lentCharges lentCredits good)
           (then-stays d reactive-answer
           (then-stays d black-start-answer
-          (then-on (all-accepted (networkPots m) networkPlace zones)
-          (ap (λ k. refuse k divisions (zoneCount m)) (nonzone-is n w .0) ∙ refuse-some n divisions (zoneCount m) (nonzone-is n w .1) ∙ sym e))))
+          (then-on (all-accepted (networkPots m) networkPlace (zones-pass m (zoneCount m) zones))
+          (ap (λ k. refuse k DIVISIONS (zoneCount m)) (nonzone-is n w .0) ∙ refuse-some n DIVISIONS (zoneCount m) (nonzone-is n w .1) ∙ sym e))))
       go (in-black-start good network w) d =
           then-on (tables-accept m lentCharges lentCredits good)
           (then-stays d reactive-answer

@@ -1,11 +1,10 @@
--- From the parts to the month: what the parts say of the tables they have, and of the columns between them, is what the paper says
--- of the month; and a good month has figures that can all be found.
+-- From the parts to the month: what the parts say of the columns that are lent to them is what the paper says of the month.
 -- Assumes nothing.
-use mathlib.Core.Path.{_≡_, refl, sym, ap, ap₂, _∙_}
-use mathlib.Core.Bool.{not}
+use mathlib.Core.Path.{_≡_, refl, sym, ap, ap₂, _∙_, subst}
+use mathlib.Core.Bool.{true, false, cond, not}
 use mathlib.Core.List.{List}
-use Prim.Native.Nat.{ℕ, _≤_}
-use native.Mathlib.Nat.{le-trans, le-of-eq, lt-of-le-of-lt}
+use Prim.Native.Nat.{ℕ, zero, suc, _+_, _*_, _≤_, _<_}
+use native.Mathlib.Nat.{le-trans, le-of-eq, lt-of-le-of-lt, zero-add}
 use native.Mathlib.Omega.{arith}
 use lib.Dec.{eqb}
 use lib.ListN.{length}
@@ -13,28 +12,34 @@ use borrow.Author.Tests.{eq-eqb}
 use Rattle.lists.specs.Sums.{at, total, when}
 use Rattle.lists.specs.Entries.{listed, put}
 use Rattle.lists.proofs.Sums.{sum-at-most, where-eq}
-use Rattle.lists.proofs.Entries.{length-listed, put-eq, put-long, at-put}
+use Rattle.lists.proofs.Entries.{length-listed, length-put, put-eq, put-long, at-put}
 use Rattle.answer.specs.declared.Answer.{Answer}
-use Rattle.answer.specs.Numbers.{divisions}
+use Rattle.answer.specs.Numbers.{DIVISIONS}
 use Rattle.answer.specs.Turns.{refuse, _then_}
 use Rattle.answer.proofs.Turns.{then-none}
 use Rattle.division.specs.Limits.{sizeRefusal}
 use Rattle.division.specs.Shares.{shares}
 use Rattle.groups.proofs.Same as groups
+use Rattle.service.specs.Service as service
 use Rattle.service.specs.Turn.{serviceInTurn, Served}
 use Rattle.service.proofs.Same as services
-use Rattle.tables.specs.declared.Table.the-variants.{Accounts}
-use Rattle.tables.specs.Shape.{limit, Tables}
+use Rattle.tables.specs.declared.Table.the-variants.{Owners, Accounts}
+use Rattle.tables.specs.Shape.{limit, chargeWidth, creditWidth, Tables}
 use Rattle.tables.specs.Columns.{zoneNumber, ownerRequirement, accountZone}
-use Rattle.tables.specs.Limits.{blackStart, reactive}
+use Rattle.month.specs.Limits.{blackStart, reactive}
+use Rattle.columns.specs.Blocks.{columnAt, columnsFrom, withColumns, Zeros}
+use Rattle.columns.proofs.Blocks.{column-zeros, columns-long, part-column, ColumnsLent, columns-lent, ColumnLent, column-lent}
 use Rattle.pool.specs.Input.{Input, zoneCount, ownerCount, accountCount}
 use Rattle.pool.specs.Accounts.{contributions, reserved, curtailed, accountUse}
-use Rattle.pool.specs.Network.{rate, networkCharge, chargesIn, zonePots, networkPots, networkCredit, requirements, nonzoneCredit, nonzoneRefusal}
+use Rattle.pool.specs.Network.{rate, networkCharge, chargesIn, potsAmongOwners, networkPots, networkCredit, requirements, nonzoneCredit, networkNonzoneRefusal}
 use Rattle.pool.specs.Services.{unitCredit, creditIn, serviceCredit, zonePot, zonePart, nonzonePart, serviceIn, serviceCharge}
-use Rattle.settlement.specs.Settled.{blackStartPlace, reactivePlace, networkInTurn, divisionsInTurn}
+use Rattle.pool.specs.Filled.{accountsInput, mostCharge, AccountsFilled}
+use Rattle.pool.specs.Divided.{chargesFrom, Divisible, CreditColumns, NetworkCredited}
 use Rattle.pool.proofs.Crediting.{credited-all}
-use Rattle.pool.specs.Steps.{accountsInput, unitsInput, mostCharge, Filled, chargesFrom, NetworkDivided, Divisible, serviceFrom, Usable, ServiceSettled}
-use Rattle.settlement.specs.Steps.{Settleable, Holds, ForAccounts, ForOwners, MonthDivided}
+use Rattle.services.specs.Settled.{unitsInput, Creditable, serviceFrom, Usable, ServiceSettled}
+use Rattle.settlement.specs.Holds.{Holds}
+use Rattle.settlement.specs.Settled.{blackStartPlace, reactivePlace, networkInTurn, divisionsInTurn, chargeOf, creditOf}
+use Rattle.settlement.specs.Steps.{Settleable, Working, BlockHolds, MonthDivided}
 
 -- a column that n values were stored in holds them
 pub holds : (n : ℕ) (f : ℕ → ℕ) (before column : List ℕ) → column ≡ put n f before → n ≤ length before → Holds n f column
@@ -44,28 +49,44 @@ holds n f before column e long =
       words = λ i b. ap (λ l. at l i) e ∙ at-put n f before long i b;
     }
 
+-- two blocks with all their columns
+pub record Whole (accounts owners : List ℕ) : Type 0 where
+  pub for-accounts : length accounts ≡ chargeWidth * limit Accounts
+  pub for-owners : length owners ≡ creditWidth * limit Owners
+
+pub first-long : {accounts owners : List ℕ} → Whole accounts owners → length (columnAt (limit Accounts) 0 accounts) ≡ limit Accounts
+first-long {accounts} whole = columns-long (limit Accounts) 0 accounts 1 (omega (arith, whole .for-accounts))
+
+-- a column that is another holds the same
+carried : {n : ℕ} {f : ℕ → ℕ} {column other : List ℕ} → column ≡ other → Holds n f other → Holds n f column
+carried {n} {f} e = subst (Holds n f) (sym e)
+
+-- .. and a column of a service that is another's name
+named : (n : ℕ) (figure : ℕ → ℕ → ℕ) {column : List ℕ} {s k : ℕ} → s ≡ k → Holds n (figure s) column → Holds n (figure k) column
+named n figure {column} = subst (λ s. Holds n (figure s) column)
+
 module _ (m : Input) where
-  open Tables (m .tables) using (zones, owners, units, accounts, loads, reservations)
+  open Tables (m .tables) using (zones, owners, accounts)
 
   abbrev forAccounts : Input
-  forAccounts = accountsInput (m .nonzone) zones accounts loads reservations
+  forAccounts = accountsInput (m .nonzone) (m .tables)
 
   abbrev forUnits : Input
-  forUnits = unitsInput (m .month) zones owners units
+  forUnits = unitsInput (m .month) (m .tables)
 
   -- the columns of the accounts
-  module _ {network networkAfter uses usesAfter : List ℕ} (filled : Filled forAccounts network networkAfter uses usesAfter) where
-    pub holds-charges : accountCount m ≤ length network → Holds (accountCount m) (networkCharge m) networkAfter
+  module _ {network networkAfter uses usesAfter : List ℕ} (filled : AccountsFilled forAccounts network networkAfter uses usesAfter) where
+    holds-charges : accountCount m ≤ length network → Holds (accountCount m) (networkCharge m) networkAfter
     unfolding networkCharge contributions rate
     holds-charges long = holds (accountCount m) (networkCharge forAccounts) network networkAfter (filled .charged) long
 
-    pub holds-uses : accountCount m ≤ length uses → Holds (accountCount m) (accountUse m) usesAfter
+    holds-uses : accountCount m ≤ length uses → Holds (accountCount m) (accountUse m) usesAfter
     unfolding accountUse contributions reserved curtailed
     holds-uses long = holds (accountCount m) (accountUse forAccounts) uses usesAfter (filled .used) long
 
   module _ {network : List ℕ} (charges : Holds (accountCount m) (networkCharge m) network) where
-    pub divisible : Settleable m → Divisible zones owners accounts network
-    divisible can =
+    can-divide : Settleable m → Divisible (m .tables) network
+    can-divide can =
         record {
           few-zones = can .creditable .few-zones;
           few-owners = can .few-owners;
@@ -84,7 +105,7 @@ module _ (m : Input) where
     holds-zone zone =
         where-eq (accountCount m) (accountZone accounts) (at network) zone (networkCharge m) (λ a b e. charges .words a b)
 
-    same-pots : groups.Same (zonePots zones owners (chargesFrom accounts network)) (networkPots m)
+    same-pots : groups.Same (potsAmongOwners zones owners (chargesFrom accounts network)) (networkPots m)
     same-pots =
         record {
           same-members = refl;
@@ -96,42 +117,42 @@ module _ (m : Input) where
         }
 
     -- the network divisions
-    module _ {credits creditsAfter nonzonecredits nonzonecreditsAfter : List ℕ} {r : Answer}
-        (divided : NetworkDivided (zonePots zones owners (chargesFrom accounts network)) (chargesFrom accounts network 0) (listed (ownerCount m) (ownerRequirement owners)) credits creditsAfter nonzonecredits nonzonecreditsAfter r) where
-      pub network-answer : r ≡ networkInTurn m
-      unfolding networkInTurn nonzoneRefusal requirements
+    module _ {block blockAfter : List ℕ} {r : Answer} (divided : NetworkCredited (m .tables) network block blockAfter r) where
+      network-answer : r ≡ networkInTurn m
+      unfolding networkInTurn networkNonzoneRefusal requirements
       network-answer =
           divided .answer
-          ∙ ap₂ (λ (a : Answer) pot. a then refuse (sizeRefusal pot (total (listed (ownerCount m) (ownerRequirement owners)))) divisions (zoneCount m))
+          ∙ ap₂ (λ (a : Answer) pot. a then refuse (sizeRefusal pot (total (listed (ownerCount m) (ownerRequirement owners)))) DIVISIONS (zoneCount m))
           (groups.same-turn same-pots 0) (holds-zone 0)
 
-      pub holds-network-credits : r .number ≡ 0 → ownerCount m ≤ length credits → Holds (ownerCount m) (networkCredit m) creditsAfter
+      holds-network-credits : r .number ≡ 0 → ownerCount m ≤ length (columnAt (limit Owners) 0 block)
+          → Holds (ownerCount m) (networkCredit m) (columnAt (limit Owners) 0 blockAfter)
       unfolding networkCredit
       holds-network-credits fine long =
-          holds (ownerCount m) (networkCredit m) credits creditsAfter
-          (credited-all divided fine .0 ∙ put-eq (ownerCount m) _ (networkCredit m) credits (λ i b. groups.same-amounts same-pots i)) long
+          holds (ownerCount m) (networkCredit m) (columnAt (limit Owners) 0 block) (columnAt (limit Owners) 0 blockAfter)
+          (credited-all divided fine .0 ∙ put-eq (ownerCount m) _ (networkCredit m) _ (λ i b. groups.same-amounts same-pots i)) long
 
-      pub holds-nonzone-credits : r .number ≡ 0 → ownerCount m ≤ length nonzonecredits → Holds (ownerCount m) (nonzoneCredit m) nonzonecreditsAfter
+      holds-nonzone-credits : r .number ≡ 0 → ownerCount m ≤ length (columnAt (limit Owners) 1 block)
+          → Holds (ownerCount m) (nonzoneCredit m) (columnAt (limit Owners) 1 blockAfter)
       unfolding nonzoneCredit requirements
       holds-nonzone-credits fine long =
-          holds (ownerCount m) (nonzoneCredit m) nonzonecredits nonzonecreditsAfter
+          holds (ownerCount m) (nonzoneCredit m) (columnAt (limit Owners) 1 block) (columnAt (limit Owners) 1 blockAfter)
           (credited-all divided fine .1
-          ∙ ap (λ n. put n (at (shares (chargesFrom accounts network 0) (listed (ownerCount m) (ownerRequirement owners)))) nonzonecredits)
-          (length-listed (ownerCount m) (ownerRequirement owners))
-          ∙ ap (λ pot. put (ownerCount m) (at (shares pot (listed (ownerCount m) (ownerRequirement owners)))) nonzonecredits) (holds-zone 0))
+          ∙ ap₂ (λ n pot. put n (at (shares pot (listed (ownerCount m) (ownerRequirement owners)))) (columnAt (limit Owners) 1 block))
+          (length-listed (ownerCount m) (ownerRequirement owners)) (holds-zone 0))
           long
 
   -- a service
   module _ {uses : List ℕ} (used : Holds (accountCount m) (accountUse m) uses) where
-    pub usable : Settleable m → Usable accounts uses
-    usable can =
+    can-use : Settleable m → Usable (m .tables) uses
+    can-use can =
         record {
           few = can .fillable .few;
           long = used .long;
           within = λ a b. le-trans (le-of-eq (used .words a b)) (can .use-within a);
         }
 
-    same-service : (s : ℕ) → services.Same (serviceFrom forUnits accounts uses s) (serviceIn m s)
+    same-service : (s : ℕ) → services.Same (serviceFrom forUnits (at uses) s) (serviceIn m s)
     unfolding zonePart nonzonePart zonePot creditIn unitCredit
     same-service s =
         record {
@@ -145,67 +166,245 @@ module _ (m : Input) where
         }
 
     module _ (s place : ℕ) {charges chargesAfter credits creditsAfter : List ℕ} {r : Answer}
-        (settled : ServiceSettled forUnits accounts uses s place charges chargesAfter credits creditsAfter r) where
+        (settled : ServiceSettled forUnits (at uses) s place charges chargesAfter credits creditsAfter r) where
       served : Served (serviceIn m s) place charges chargesAfter r
       served = services.same-served (same-service s) place charges chargesAfter r (settled .served)
 
-      pub service-answer : r ≡ serviceInTurn (serviceIn m s) place
+      service-answer : r ≡ serviceInTurn (serviceIn m s) place
       service-answer = served .answers
 
-      pub holds-service-charges : r .number ≡ 0 → accountCount m ≤ length charges → Holds (accountCount m) (serviceCharge m s) chargesAfter
+      holds-service-charges : r .number ≡ 0 → accountCount m ≤ length charges → Holds (accountCount m) (serviceCharge m s) chargesAfter
       unfolding serviceCharge
       holds-service-charges fine long =
           holds (accountCount m) (serviceCharge m s) charges chargesAfter (served .lent ∙ (rw (eq-eqb (r .number) 0 fine))) long
 
-      pub holds-service-credits : ownerCount m ≤ length credits → Holds (ownerCount m) (serviceCredit m s) creditsAfter
+      holds-service-credits : ownerCount m ≤ length credits → Holds (ownerCount m) (serviceCredit m s) creditsAfter
       unfolding serviceCredit creditIn unitCredit
       holds-service-credits long = holds (ownerCount m) (serviceCredit forUnits s) credits creditsAfter (settled .credited) long
 
-  -- all divisions of the month: what the parts answer in turn, and what their columns hold
-  module _
-      {network networkAfter uses usesAfter blackstart blackstartAfter reactives reactivesAfter : List ℕ}
-      {credits creditsAfter nonzonecredits nonzonecreditsAfter blackstartcredits blackstartcreditsAfter reactivecredits reactivecreditsAfter : List ℕ}
-      {first second third r : Answer} {blackstartplace reactiveplace : ℕ}
-      (filled : Filled forAccounts network networkAfter uses usesAfter)
-      (divided : NetworkDivided (zonePots zones owners (chargesFrom accounts networkAfter)) (chargesFrom accounts networkAfter 0) (listed (ownerCount m) (ownerRequirement owners)) credits creditsAfter nonzonecredits nonzonecreditsAfter first)
-      (served : ServiceSettled forUnits accounts usesAfter blackStart blackstartplace blackstart blackstartAfter blackstartcredits blackstartcreditsAfter second)
-      (served-too : ServiceSettled forUnits accounts usesAfter reactive reactiveplace reactives reactivesAfter reactivecredits reactivecreditsAfter third)
-      (there : blackstartplace ≡ blackStartPlace (zoneCount m)) (there-too : reactiveplace ≡ reactivePlace (zoneCount m))
-      (for-accounts : ForAccounts accounts network blackstart reactives uses)
-      (for-owners : ForOwners owners credits nonzonecredits blackstartcredits reactivecredits)
-      (answer : r ≡ (first then second then third)) where
-    charges : Holds (accountCount m) (networkCharge m) networkAfter
-    charges = holds-charges filled (for-accounts .network-room)
+      -- its two columns, each lent of a block
+      charges-lent : (c : ℕ) (block : List ℕ) → charges ≡ columnAt (limit Accounts) c block → (c + 1) * limit Accounts ≤ length block
+          → ColumnLent (limit Accounts) c block chargesAfter (withColumns (limit Accounts) c 1 chargesAfter block)
+      charges-lent c block its room =
+          column-lent (limit Accounts) c block room chargesAfter
+          (ap length (served .lent)
+          ∙ (elim (eqb (r .number) 0) as (λ t. length (cond t (put (accountCount m) (service.accountCharge (serviceIn m s)) charges) charges) ≡ length charges)
+          [ true ↦ length-put (accountCount m) _ charges | false ↦ refl ])
+          ∙ ap length its
+          ∙ columns-long (limit Accounts) c block 1 room)
 
-    used : Holds (accountCount m) (accountUse m) usesAfter
-    used = holds-uses filled (for-accounts .uses-room)
+      credits-lent : (c : ℕ) (block : List ℕ) → credits ≡ columnAt (limit Owners) c block → (c + 1) * limit Owners ≤ length block
+          → ColumnLent (limit Owners) c block creditsAfter (withColumns (limit Owners) c 1 creditsAfter block)
+      credits-lent c block its room =
+          column-lent (limit Owners) c block room creditsAfter
+          (put-long (ownerCount m) (serviceCredit forUnits s) credits (settled .credited) ∙ ap length its ∙ columns-long (limit Owners) c block 1 room)
 
-    in-turn : (first then second then third) ≡ divisionsInTurn m
-    unfolding divisionsInTurn
-    in-turn =
-        let network-turn : first ≡ networkInTurn m = network-answer charges divided in
-        let blackstart-turn : second ≡ serviceInTurn (serviceIn m blackStart) (blackStartPlace (zoneCount m)) =
-        service-answer used blackStart blackstartplace served ∙ ap (serviceInTurn (serviceIn m blackStart)) there in
-        let reactive-turn : third ≡ serviceInTurn (serviceIn m reactive) (reactivePlace (zoneCount m)) =
-        service-answer used reactive reactiveplace served-too ∙ ap (serviceInTurn (serviceIn m reactive)) there-too in
-        λ i. network-turn i then blackstart-turn i then reactive-turn i
+  -- two blocks with all their columns, each of which has a word for each account, or owner
+  module _ {accountBlock ownerBlock : List ℕ} (can : Settleable m) (whole : Whole accountBlock ownerBlock) where
+    pub account-column : (c : ℕ) → c < chargeWidth → accountCount m ≤ length (columnAt (limit Accounts) c accountBlock)
+    account-column c h =
+        le-trans (can .fillable .few)
+        (le-of-eq (sym (columns-long (limit Accounts) c accountBlock 1 (omega (arith, whole .for-accounts, h)))))
 
-    pub month-divided : MonthDivided m networkAfter blackstartAfter reactivesAfter creditsAfter nonzonecreditsAfter blackstartcreditsAfter reactivecreditsAfter r
-    month-divided =
+    owner-column : (c : ℕ) → c < creditWidth → ownerCount m ≤ length (columnAt (limit Owners) c ownerBlock)
+    owner-column c h =
+        le-trans (can .few-owners) (le-of-eq (sym (columns-long (limit Owners) c ownerBlock 1 (omega (arith, whole .for-owners, h)))))
+
+    -- the network charges, lent as the first column of the accounts
+    module _ {network uses usesAfter : List ℕ} (filled : AccountsFilled forAccounts (columnAt (limit Accounts) 0 accountBlock) network uses usesAfter) where
+      network-lent : ColumnLent (limit Accounts) 0 accountBlock network (withColumns (limit Accounts) 0 1 network accountBlock)
+      network-lent =
+          column-lent (limit Accounts) 0 accountBlock (omega (arith, whole .for-accounts)) network
+          (put-long (accountCount m) (networkCharge forAccounts) (columnAt (limit Accounts) 0 accountBlock) (filled .charged)
+          ∙ columns-long (limit Accounts) 0 accountBlock 1 (omega (arith, whole .for-accounts)))
+
+      filled-whole : Whole (withColumns (limit Accounts) 0 1 network accountBlock) ownerBlock
+      filled-whole = record { for-accounts = network-lent .long ∙ whole .for-accounts; for-owners = whole .for-owners }
+
+      charged : Holds (accountCount m) (networkCharge m) (columnAt (limit Accounts) 0 (withColumns (limit Accounts) 0 1 network accountBlock))
+      charged = carried (network-lent .its) (holds-charges filled (account-column 0 (omega arith)))
+
+    -- the network credits, lent as the first two columns of the owners, the second of zeros
+    credit-columns : Zeros ownerBlock → CreditColumns (columnsFrom (limit Owners) 0 2 ownerBlock)
+    credit-columns zeros =
         record {
-          answer = answer ∙ in-turn;
-          columns =
-              λ fine.
-              let all : ((first then second) .number ≡ 0) × (third .number ≡ 0) =
-              then-none (first then second) third (ap (λ (a : Answer). a .number) (sym answer) ∙ fine) in
-              let some : (first .number ≡ 0) × (second .number ≡ 0) = then-none first second (all .0) in
-              record {
-                network-charges = charges;
-                blackstart-charges = holds-service-charges used blackStart blackstartplace served (some .1) (for-accounts .blackstart-room);
-                reactive-charges = holds-service-charges used reactive reactiveplace served-too (all .1) (for-accounts .reactive-room);
-                network-credits = holds-network-credits charges divided (some .0) (for-owners .network-room);
-                nonzone-credits = holds-nonzone-credits charges divided (some .0) (for-owners .nonzone-room);
-                blackstart-credits = holds-service-credits used blackStart blackstartplace served (for-owners .blackstart-room);
-                reactive-credits = holds-service-credits used reactive reactiveplace served-too (for-owners .reactive-room);
-              };
+          long = columns-long (limit Owners) 0 ownerBlock 2 (omega (arith, whole .for-owners));
+          zeros = λ i.
+              ap (λ l. at l i) (part-column (limit Owners) 0 2 ownerBlock (omega (arith, whole .for-owners)) 1 (omega arith))
+              ∙ column-zeros (limit Owners) 1 ownerBlock zeros i;
         }
+
+    part-room : (c : ℕ) → c < 2 → ownerCount m ≤ length (columnAt (limit Owners) c (columnsFrom (limit Owners) 0 2 ownerBlock))
+    part-room c h =
+        le-trans (owner-column c (omega (arith, h)))
+        (le-of-eq
+        (ap (λ k. length (columnAt (limit Owners) k ownerBlock)) (sym (zero-add c))
+        ∙ ap length (sym (part-column (limit Owners) 0 2 ownerBlock (omega (arith, whole .for-owners)) c h))))
+
+    module _ {network : List ℕ} (charges : Holds (accountCount m) (networkCharge m) network) {networkcredits : List ℕ} {r : Answer}
+        (divided : NetworkCredited (m .tables) network (columnsFrom (limit Owners) 0 2 ownerBlock) networkcredits r) where
+      network-credits-lent : ColumnsLent (limit Owners) 0 2 ownerBlock networkcredits (withColumns (limit Owners) 0 2 networkcredits ownerBlock)
+      network-credits-lent =
+          columns-lent (limit Owners) 0 2 ownerBlock (omega (arith, whole .for-owners)) networkcredits
+          (divided .long ∙ columns-long (limit Owners) 0 ownerBlock 2 (omega (arith, whole .for-owners)))
+
+      credited-whole : Whole accountBlock (withColumns (limit Owners) 0 2 networkcredits ownerBlock)
+      credited-whole = record { for-accounts = whole .for-accounts; for-owners = network-credits-lent .long ∙ whole .for-owners }
+
+      credits-of-zones : r .number ≡ 0
+          → Holds (ownerCount m) (networkCredit m) (columnAt (limit Owners) 0 (withColumns (limit Owners) 0 2 networkcredits ownerBlock))
+      credits-of-zones fine =
+          carried (network-credits-lent .inside 0 (omega arith)) (holds-network-credits charges divided fine (part-room 0 (omega arith)))
+
+      credits-of-zone-0 : r .number ≡ 0
+          → Holds (ownerCount m) (nonzoneCredit m) (columnAt (limit Owners) 1 (withColumns (limit Owners) 0 2 networkcredits ownerBlock))
+      credits-of-zone-0 fine =
+          carried (network-credits-lent .inside 1 (omega arith)) (holds-nonzone-credits charges divided fine (part-room 1 (omega arith)))
+
+    -- a service, lent column c of the accounts and column d of the owners
+    module _ {uses : List ℕ} (used : Holds (accountCount m) (accountUse m) uses) (c d : ℕ) (h : c < chargeWidth) (k : d < creditWidth) {s place : ℕ} {charges credits : List ℕ} {r : Answer}
+        (settled : ServiceSettled forUnits (at uses) s place (columnAt (limit Accounts) c accountBlock) charges (columnAt (limit Owners) d ownerBlock) credits r) where
+      service-charges-lent : ColumnLent (limit Accounts) c accountBlock charges (withColumns (limit Accounts) c 1 charges accountBlock)
+      service-charges-lent = charges-lent used s place settled c accountBlock refl (omega (arith, whole .for-accounts, h))
+
+      service-credits-lent : ColumnLent (limit Owners) d ownerBlock credits (withColumns (limit Owners) d 1 credits ownerBlock)
+      service-credits-lent = credits-lent used s place settled d ownerBlock refl (omega (arith, whole .for-owners, k))
+
+      served-whole : Whole (withColumns (limit Accounts) c 1 charges accountBlock) (withColumns (limit Owners) d 1 credits ownerBlock)
+      served-whole =
+          record { for-accounts = service-charges-lent .long ∙ whole .for-accounts; for-owners = service-credits-lent .long ∙ whole .for-owners }
+
+      charges-of-service : r .number ≡ 0 → Holds (accountCount m) (serviceCharge m s) (columnAt (limit Accounts) c (withColumns (limit Accounts) c 1 charges accountBlock))
+      charges-of-service fine = carried (service-charges-lent .its) (holds-service-charges used s place settled fine (account-column c h))
+
+      credits-of-service : Holds (ownerCount m) (serviceCredit m s) (columnAt (limit Owners) d (withColumns (limit Owners) d 1 credits ownerBlock))
+      credits-of-service = carried (service-credits-lent .its) (holds-service-credits used s place settled (owner-column d k))
+
+-- A month that can be settled, with two new blocks, of which the accounts' first column and a column of uses are filled.
+pub record Begun (m : Input) (accounts₀ owners₀ network uses usesAfter : List ℕ) : Type 0 where
+  pub can : Settleable m
+  pub new : Working accounts₀ owners₀
+  pub filled : AccountsFilled (accountsInput (m .nonzone) (m .tables)) (columnAt (limit Accounts) 0 accounts₀) network uses usesAfter
+  pub room : accountCount m ≤ length uses
+
+-- new blocks are whole
+pub new-whole : {accounts₀ owners₀ : List ℕ} → Working accounts₀ owners₀ → Whole accounts₀ owners₀
+new-whole new = record { for-accounts = new .for-accounts; for-owners = new .for-owners }
+
+-- The calls in turn, from there ..
+module _ {m : Input} {accounts₀ owners₀ network uses usesAfter : List ℕ} (b : Begun m accounts₀ owners₀ network uses usesAfter) where
+  abbrev accounts₁ : List ℕ
+  accounts₁ = withColumns (limit Accounts) 0 1 network accounts₀
+
+  pub whole₁ : Whole accounts₁ owners₀
+  whole₁ = filled-whole m (b .can) (new-whole (b .new)) (b .filled)
+
+  network-charges : Holds (accountCount m) (networkCharge m) (columnAt (limit Accounts) 0 accounts₁)
+  network-charges = charged m (b .can) (new-whole (b .new)) (b .filled)
+
+  used : Holds (accountCount m) (accountUse m) usesAfter
+  used = holds-uses m (b .filled) (b .room)
+
+  pub divisible : Divisible (m .tables) (columnAt (limit Accounts) 0 accounts₁) × CreditColumns (columnsFrom (limit Owners) 0 2 owners₀)
+  divisible = (can-divide m network-charges (b .can), credit-columns m (b .can) whole₁ (b .new .new))
+
+  -- what a service asks for, with two columns of whole blocks
+  pub servable : {accountBlock ownerBlock : List ℕ} → Whole accountBlock ownerBlock → (c d : ℕ) → c < chargeWidth → d < creditWidth
+      → (Creditable (unitsInput (m .month) (m .tables)) × Usable (m .tables) usesAfter)
+      × (accountCount m ≤ length (columnAt (limit Accounts) c accountBlock)) × (ownerCount m ≤ length (columnAt (limit Owners) d ownerBlock))
+  servable whole c d h k =
+      ((b .can .creditable, can-use m used (b .can)), account-column m (b .can) whole c h, owner-column m (b .can) whole d k)
+
+  -- .. the network credits ..
+  module _ {networkcredits : List ℕ} {first : Answer}
+      (divided : NetworkCredited (m .tables) (columnAt (limit Accounts) 0 accounts₁) (columnsFrom (limit Owners) 0 2 owners₀) networkcredits first) where
+    abbrev owners₁ : List ℕ
+    owners₁ = withColumns (limit Owners) 0 2 networkcredits owners₀
+
+    pub whole₂ : Whole accounts₁ owners₁
+    whole₂ = credited-whole m (b .can) whole₁ network-charges divided
+
+    -- .. black start ..
+    module _ {s place : ℕ} {blackstart blackstartcredits : List ℕ} {second : Answer}
+        (served : ServiceSettled (unitsInput (m .month) (m .tables)) (at usesAfter) s place (columnAt (limit Accounts) 1 accounts₁) blackstart (columnAt (limit Owners) 2 owners₁) blackstartcredits second) where
+      abbrev accounts₂ : List ℕ
+      accounts₂ = withColumns (limit Accounts) 1 1 blackstart accounts₁
+
+      abbrev owners₂ : List ℕ
+      owners₂ = withColumns (limit Owners) 2 1 blackstartcredits owners₁
+
+      pub whole₃ : Whole accounts₂ owners₂
+      whole₃ = served-whole m (b .can) whole₂ used 1 2 (omega arith) (omega arith) served
+
+      -- .. and reactive
+      module _ {s′ place′ : ℕ} {reactives reactivecredits : List ℕ} {third : Answer}
+          (served-too : ServiceSettled (unitsInput (m .month) (m .tables)) (at usesAfter) s′ place′ (columnAt (limit Accounts) 2 accounts₂) reactives (columnAt (limit Owners) 3 owners₂) reactivecredits third) where
+        abbrev accounts₃ : List ℕ
+        accounts₃ = withColumns (limit Accounts) 2 1 reactives accounts₂
+
+        abbrev owners₃ : List ℕ
+        owners₃ = withColumns (limit Owners) 3 1 reactivecredits owners₂
+
+        pub whole₄ : Whole accounts₃ owners₃
+        whole₄ = served-whole m (b .can) whole₃ used 2 3 (omega arith) (omega arith) served-too
+
+        module _ (its : s ≡ blackStart) (its-too : s′ ≡ reactive) where
+          one-lent : ColumnLent (limit Accounts) 1 accounts₁ blackstart accounts₂
+          one-lent = service-charges-lent m (b .can) whole₂ used 1 2 (omega arith) (omega arith) served
+
+          two-lent : ColumnLent (limit Accounts) 2 accounts₂ reactives accounts₃
+          two-lent = service-charges-lent m (b .can) whole₃ used 2 3 (omega arith) (omega arith) served-too
+
+          one-credited : ColumnLent (limit Owners) 2 owners₁ blackstartcredits owners₂
+          one-credited = service-credits-lent m (b .can) whole₂ used 1 2 (omega arith) (omega arith) served
+
+          two-credited : ColumnLent (limit Owners) 3 owners₂ reactivecredits owners₃
+          two-credited = service-credits-lent m (b .can) whole₃ used 2 3 (omega arith) (omega arith) served-too
+
+          -- what the columns hold at the end, where nothing is refused
+          charge-columns : second .number ≡ 0 → third .number ≡ 0 → BlockHolds (accountCount m) chargeWidth (chargeOf m) (limit Accounts) accounts₃
+          unfolding chargeOf
+          charge-columns fine fine-too zero h = carried (two-lent .others 0 refl ∙ one-lent .others 0 refl) network-charges
+          charge-columns fine fine-too (suc zero) h =
+              carried (two-lent .others 1 refl)
+              (named (accountCount m) (serviceCharge m) its (charges-of-service m (b .can) whole₂ used 1 2 (omega arith) (omega arith) served fine))
+          charge-columns fine fine-too (suc (suc zero)) h =
+              named (accountCount m) (serviceCharge m) its-too (charges-of-service m (b .can) whole₃ used 2 3 (omega arith) (omega arith) served-too fine-too)
+          charge-columns fine fine-too (suc (suc (suc column))) h = absurd (omega (arith, h))
+
+          credit-columns-hold : first .number ≡ 0 → BlockHolds (ownerCount m) creditWidth (creditOf m) (limit Owners) owners₃
+          unfolding creditOf
+          credit-columns-hold fine zero h =
+              carried (two-credited .others 0 refl ∙ one-credited .others 0 refl) (credits-of-zones m (b .can) whole₁ network-charges divided fine)
+          credit-columns-hold fine (suc zero) h =
+              carried (two-credited .others 1 refl ∙ one-credited .others 1 refl) (credits-of-zone-0 m (b .can) whole₁ network-charges divided fine)
+          credit-columns-hold fine (suc (suc zero)) h =
+              carried (two-credited .others 2 refl)
+              (named (ownerCount m) (serviceCredit m) its (credits-of-service m (b .can) whole₂ used 1 2 (omega arith) (omega arith) served))
+          credit-columns-hold fine (suc (suc (suc zero))) h =
+              named (ownerCount m) (serviceCredit m) its-too (credits-of-service m (b .can) whole₃ used 2 3 (omega arith) (omega arith) served-too)
+          credit-columns-hold fine (suc (suc (suc (suc column)))) h = absurd (omega (arith, h))
+
+          -- all divisions of the month
+          module _ {r : Answer} (there : place ≡ blackStartPlace (zoneCount m)) (there-too : place′ ≡ reactivePlace (zoneCount m))
+              (answer : r ≡ (first then second then third)) where
+            in-turn : (first then second then third) ≡ divisionsInTurn m
+            unfolding divisionsInTurn
+            in-turn =
+                let network-turn : first ≡ networkInTurn m = network-answer m network-charges divided in
+                let blackstart-turn : second ≡ serviceInTurn (serviceIn m blackStart) (blackStartPlace (zoneCount m)) =
+                service-answer m used s place served ∙ ap₂ (λ k. serviceInTurn (serviceIn m k)) its there in
+                let reactive-turn : third ≡ serviceInTurn (serviceIn m reactive) (reactivePlace (zoneCount m)) =
+                service-answer m used s′ place′ served-too ∙ ap₂ (λ k. serviceInTurn (serviceIn m k)) its-too there-too in
+                λ i. network-turn i then blackstart-turn i then reactive-turn i
+
+            pub month-divided : MonthDivided m accounts₃ owners₃ r
+            month-divided =
+                record {
+                  answer = answer ∙ in-turn;
+                  columns = λ fine.
+                      let all : ((first then second) .number ≡ 0) × (third .number ≡ 0) =
+                      then-none (first then second) third (ap (λ (a : Answer). a .number) (sym answer) ∙ fine) in
+                      let some : (first .number ≡ 0) × (second .number ≡ 0) = then-none first second (all .0) in
+                      record { charges = charge-columns (some .1) (all .1); credits = credit-columns-hold (some .0) };
+                }

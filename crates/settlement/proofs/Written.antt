@@ -21,7 +21,7 @@ use Rattle.pool.specs.Network.{chargesIn, networkCredit}
 use Rattle.settlement.specs.Settled.{laid, chargeOf, creditOf, chargeWords, creditWords, Settled}
 use Rattle.settlement.specs.Columns.{figureAt, chargedNetwork, creditedNetwork}
 use Rattle.settlement.specs.Accepted.{Accepted}
-use Rattle.settlement.specs.Steps.{Holds}
+use Rattle.settlement.specs.Holds.{Holds}
 use Rattle.settlement.proofs.Settling.{holds}
 use Rattle.settlement.proofs.Accepting.{answer-accepted}
 

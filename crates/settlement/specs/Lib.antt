@@ -1,6 +1,7 @@
+pub mod Holds
 pub mod Settled
 pub mod Columns
 pub mod Accepted
+pub mod Paid
 pub mod Refused
-pub mod Days
 pub mod Steps

@@ -4,35 +4,35 @@ use mathlib.Core.Path.{_≡_}
 use Prim.Native.Nat.{ℕ, _+_, _*_, _<_}
 use Rattle.lists.specs.Sums.{total}
 use Rattle.answer.specs.declared.Answer.{Answer}
-use Rattle.answer.specs.Numbers.{divisions}
+use Rattle.answer.specs.Numbers.{DIVISIONS}
 use Rattle.answer.specs.Turns.{refusal}
 use Rattle.division.specs.Refused.{SizeRefused}
 use Rattle.groups.specs.Groups.{weightsIn}
 use Rattle.service.specs.Turn as service
 use Rattle.tables.specs.Columns.{zoneNumber}
-use Rattle.tables.specs.Limits.{blackStart, reactive}
+use Rattle.month.specs.Limits.{blackStart, reactive}
 use Rattle.judgement.specs.Refused as judgement
 use Rattle.pool.specs.Input.{Input, zoneCount}
 use Rattle.pool.specs.Network.{chargesIn, networkPots, requirements}
 use Rattle.pool.specs.Services.{serviceIn}
-use Rattle.settlement.specs.Settled.{blackStartPlace, reactivePlace}
-use Rattle.settlement.specs.Accepted.{Good, ZonesFine, NetworkFine}
+use Rattle.settlement.specs.Settled.{headOf, blackStartPlace, reactivePlace}
+use Rattle.settlement.specs.Accepted.{GoodInput, ZonesFine, NetworkFine}
 
 module _ (m : Input) (lentCharges lentCredits : ℕ) where
   pub data Refused (r : Answer) : Type 0 where
     -- an input that the tables' rules refuse
-    by-tables : judgement.Refused (m .month) (m .days) (m .nonzone) (m .tables) lentCharges lentCredits r → Refused r
+    by-tables : judgement.Refused (headOf m) (m .tables) lentCharges lentCredits r → Refused r
     -- "network zones 0..k-1", "each BIG, then BASE"
-    at-zone : Good m lentCharges lentCredits → (z n : ℕ) → z < zoneCount m → ZonesFine m z
-        → SizeRefused (chargesIn m (zoneNumber (m .tables .zones) z)) (total (weightsIn (networkPots m) z)) n → r ≡ refusal n divisions z → Refused r
+    at-zone : GoodInput m lentCharges lentCredits → (z n : ℕ) → z < zoneCount m → ZonesFine m z
+        → SizeRefused (chargesIn m (zoneNumber (m .tables .zones) z)) (total (weightsIn (networkPots m) z)) n → r ≡ refusal n DIVISIONS z → Refused r
     -- "network non-zone k"
-    at-nonzone : Good m lentCharges lentCredits → (n : ℕ) → ZonesFine m (zoneCount m)
-        → SizeRefused (chargesIn m 0) (total (requirements m)) n → r ≡ refusal n divisions (zoneCount m) → Refused r
+    at-nonzone : GoodInput m lentCharges lentCredits → (n : ℕ) → ZonesFine m (zoneCount m)
+        → SizeRefused (chargesIn m 0) (total (requirements m)) n → r ≡ refusal n DIVISIONS (zoneCount m) → Refused r
     -- at a division of black start, whose places start at k+1
-    in-black-start : Good m lentCharges lentCredits → NetworkFine m
+    in-black-start : GoodInput m lentCharges lentCredits → NetworkFine m
         → service.RefusedAt (serviceIn m blackStart) (blackStartPlace (zoneCount m)) r → Refused r
     -- at a division of reactive, whose places start at 3k+2
-    in-reactive : Good m lentCharges lentCredits → NetworkFine m → service.Accepted (serviceIn m blackStart)
+    in-reactive : GoodInput m lentCharges lentCredits → NetworkFine m → service.ServiceFine (serviceIn m blackStart)
         → service.RefusedAt (serviceIn m reactive) (reactivePlace (zoneCount m)) r → Refused r
 
 -- "black start zone i split k+1+2i and share k+2+2i, its non-zone 3k+1, reactive split 3k+2+2i, share 3k+3+2i, non-zone 5k+2"

@@ -1,30 +1,35 @@
 -- The answer of a settlement, and the words that it writes.
 -- Assumes nothing.
 use mathlib.Core.Path.{_≡_}
-use Prim.Native.Nat.{ℕ, zero, suc, _+_, _*_, _/_, _%_}
+use Prim.Native.Nat.{ℕ, _+_, _*_, _/_, _%_}
 use mathlib.Core.Bool.{cond}
-use mathlib.Core.List.{List}
+use mathlib.Core.List.{List, [], _∷_}
 use lib.Dec.{eqb}
-use lib.ListN.{length}
+use lib.ListN.{length, getD}
 use Rattle.lists.specs.Entries.{put}
 use Rattle.answer.specs.declared.Answer.{Answer}
-use Rattle.answer.specs.Numbers.{divisions}
+use Rattle.answer.specs.Numbers.{DIVISIONS}
 use Rattle.answer.specs.Turns.{refuse, _then_}
 use Rattle.groups.specs.Groups as groups
 use Rattle.service.specs.Turn as service
+use Rattle.tables.specs.declared.Head.{Head}
 use Rattle.tables.specs.Shape.{chargeWidth, creditWidth}
-use Rattle.tables.specs.Limits.{blackStart, reactive}
+use Rattle.month.specs.Limits.{blackStart, reactive}
 use Rattle.judgement.specs.Judgement.{judged}
 use Rattle.pool.specs.Input.{Input, zoneCount, ownerCount, accountCount}
-use Rattle.pool.specs.Network.{networkCharge, networkPots, networkCredit, nonzoneCredit, nonzoneRefusal}
+use Rattle.pool.specs.Network.{networkCharge, networkPots, networkCredit, nonzoneCredit, networkNonzoneRefusal}
 use Rattle.pool.specs.Services.{serviceIn, serviceCharge, serviceCredit}
+
+-- "The head is three plain numbers": those of a month's input
+abbrev pub headOf : Input → Head
+headOf m = record { month = m .month; days = m .days; nonzone = m .nonzone }
 
 -- "with k zones, network zones 0..k-1, network non-zone k ..": where each kind of division starts
 abbrev pub networkPlace : ℕ
 networkPlace = 0
 
-abbrev pub nonzonePlace : ℕ → ℕ
-nonzonePlace k = k
+abbrev pub networkNonzonePlace : ℕ → ℕ
+networkNonzonePlace k = k
 
 -- ".. black start zone i split k+1+2i and share k+2+2i, its non-zone 3k+1, reactive split 3k+2+2i, share 3k+3+2i, non-zone 5k+2"
 abbrev pub blackStartPlace : ℕ → ℕ
@@ -33,17 +38,9 @@ blackStartPlace k = k + 1
 abbrev pub reactivePlace : ℕ → ℕ
 reactivePlace k = 3 * k + 2
 
--- a row's figures in the order of its columns
-abbrev pub threeOf : (ℕ → ℕ) → (ℕ → ℕ) → (ℕ → ℕ) → ℕ → ℕ → ℕ
-threeOf f g h zero i = f i
-threeOf f g h (suc zero) i = g i
-threeOf f g h (suc (suc column)) i = h i
-
-abbrev pub fourOf : (ℕ → ℕ) → (ℕ → ℕ) → (ℕ → ℕ) → (ℕ → ℕ) → ℕ → ℕ → ℕ
-fourOf f g h e zero i = f i
-fourOf f g h e (suc zero) i = g i
-fourOf f g h e (suc (suc zero)) i = h i
-fourOf f g h e (suc (suc (suc column))) i = e i
+-- a row's figures in the order of its columns, whatever their number: what the function at a column's place in a list says of the row
+abbrev pub figureOf : List (ℕ → ℕ) → ℕ → ℕ → ℕ
+figureOf figures column i = getD figures column (λ j. 0) i
 
 -- "rows laid end to end": the word at k of rows that are so wide
 abbrev pub laid : ℕ → (ℕ → ℕ → ℕ) → ℕ → ℕ
@@ -53,7 +50,7 @@ module _ (m : Input) where
   -- "network zones 0..k-1, network non-zone k"
   unfoldable pub networkInTurn : Answer
   networkInTurn =
-      groups.groupsInTurn (networkPots m) networkPlace then refuse (nonzoneRefusal m) divisions (nonzonePlace (zoneCount m))
+      groups.groupsInTurn (networkPots m) networkPlace then refuse (networkNonzoneRefusal m) DIVISIONS (networkNonzonePlace (zoneCount m))
 
   -- "then its divisions in turn"
   unfoldable pub divisionsInTurn : Answer
@@ -66,15 +63,15 @@ module _ (m : Input) where
   -- of the lent outputs
   unfoldable pub answerOf : ℕ → ℕ → Answer
   answerOf lentCharges lentCredits =
-      judged (m .month) (m .days) (m .nonzone) (m .tables) lentCharges lentCredits then divisionsInTurn
+      judged (headOf m) (m .tables) lentCharges lentCredits then divisionsInTurn
 
   -- "every account row's three charges (network, black start, reactive)": `chargeOf column a`
   unfoldable pub chargeOf : ℕ → ℕ → ℕ
-  chargeOf = threeOf (networkCharge m) (serviceCharge m blackStart) (serviceCharge m reactive)
+  chargeOf = figureOf (networkCharge m ∷ serviceCharge m blackStart ∷ serviceCharge m reactive ∷ [])
 
   -- "every owner's four credits (network, non-zone network, black start, reactive)": `creditOf column o`
   unfoldable pub creditOf : ℕ → ℕ → ℕ
-  creditOf = fourOf (networkCredit m) (nonzoneCredit m) (serviceCredit m blackStart) (serviceCredit m reactive)
+  creditOf = figureOf (networkCredit m ∷ nonzoneCredit m ∷ serviceCredit m blackStart ∷ serviceCredit m reactive ∷ [])
 
   -- "writes only the rows named": the lent words after an acceptance
   unfoldable pub chargeWords : List ℕ → List ℕ

@@ -1,197 +1,143 @@
 // The settlement of a month, from the head and tables 1 to 6 as plain numbers: its answer, and the lent outputs. An input is judged
-// first, then every division is made in working memory, with `pool`'s charges and credits, and only a month that is accepted writes
-// to the lent outputs. `specs/` says what is answered and written, `proofs/Promises.antt` what follows from it.
+// first, then every division is made in working columns, with `pool`'s charges and credits and those of `services`, and only a month
+// that is accepted writes to the lent outputs. `specs/` says what is answered and written, `proofs/Promises.antt` what follows from it.
+ghost use mathlib.Core.List.{map};
 ghost use Prim.Native.Nat.{_*_, _≤_};
 ghost use lib.ListN.{length};
-ghost use Rattle.tables.specs.declared.Table.the-variants.{Owners, Accounts};
-ghost use Rattle.tables.specs.Shape.{rows, chargeWidth, creditWidth};
-ghost use Rattle.pool.specs.Input.{inputOf};
+ghost use Rattle.tables.specs.Shape.{chargeWidth, creditWidth, tablesFrom};
+ghost use Rattle.pool.specs.Input.{monthOf, ownerCount, accountCount};
 ghost use Rattle.settlement.specs.Settled.{Settled};
-ghost use Rattle.settlement.specs.Steps.{Settleable, ForAccounts, ForOwners, MonthDivided, GoodSettled};
+ghost use Rattle.settlement.specs.Steps.{monthWith, Settleable, Working, MonthDivided, GoodSettled};
 use answer::ACCEPTED;
 use answer::Answer;
+use judgement::Judged;
 use month::Month;
 use pool::accounts;
 use pool::network;
-use pool::services;
 use tables::BLACK_START;
+use tables::CHARGE_WIDTH;
+use tables::CREDIT_WIDTH;
+use tables::Head;
+use tables::MOST_ACCOUNTS;
+use tables::MOST_OWNERS;
 use tables::REACTIVE;
+use tables::TABLES;
 use tables::Table;
 
 mod output;
 
-// Makes every division of a good month, in lent columns: one for each charge of an account and its use, one for each credit of an
-// owner.
-fn divide_month(
+// Where each column of the accounts' block ends: their charges for the network, black start, reactive.
+const NETWORK_CHARGES_END: usize = MOST_ACCOUNTS;
+
+const BLACK_START_CHARGES_END: usize = 2 * MOST_ACCOUNTS;
+
+const REACTIVE_CHARGES_END: usize = CHARGE_WIDTH * MOST_ACCOUNTS;
+
+// Where the columns of the owners' block end: their credits of the network, two columns with the non-zone ones, black start, reactive.
+const NETWORK_CREDITS_END: usize = 2 * MOST_OWNERS;
+
+const BLACK_START_CREDITS_END: usize = 3 * MOST_OWNERS;
+
+const REACTIVE_CREDITS_END: usize = CREDIT_WIDTH * MOST_OWNERS;
+
+// Makes every division of a good month, in two lent blocks: a column for each charge with a word for each account, and one for each
+// credit with a word for each owner.
+fn divide_month<'a>(
     month: Month,
     nonzone: u64,
-    zones: &[u64],
-    owners: &[u64],
-    units: &[u64],
-    accounts: &[u64],
-    loads: &[u64],
-    reservations: &[u64],
-    network: &mut [u64],
-    blackstart: &mut [u64],
-    reactive: &mut [u64],
-    uses: &mut [u64],
-    networkcredits: &mut [u64],
-    nonzonecredits: &mut [u64],
-    blackstartcredits: &mut [u64],
-    reactivecredits: &mut [u64],
+    tables: [&'a [u64]; TABLES],
+    accounts: &mut [u64],
+    owners: &mut [u64],
 ) -> Answer
-    requires { ⌜ Settleable (inputOf (month .number) (month .days) nonzone (now zones) (now owners) (now units) (now accounts) (now loads) (now reservations)) ⌝ }
-    requires { ⌜ ForAccounts (now accounts) (now network) (now blackstart) (now reactive) (now uses) ⌝ }
-    requires { ⌜ ForOwners (now owners) (now networkcredits) (now nonzonecredits) (now blackstartcredits) (now reactivecredits) ⌝ }
-    ensures { λ r. ⌜ MonthDivided (inputOf (month .number) (month .days) nonzone (now (zones .entry)) (now (owners .entry)) (now (units .entry)) (now (accounts .entry)) (now (loads .entry)) (now (reservations .entry))) (now (network .exit)) (now (blackstart .exit)) (now (reactive .exit)) (now (networkcredits .exit)) (now (nonzonecredits .exit)) (now (blackstartcredits .exit)) (now (reactivecredits .exit)) r ⌝ }
+    requires { ⌜ Settleable (monthWith month nonzone (tablesFrom (map now tables))) × Working (now accounts) (now owners) ⌝ }
+    ensures { λ r. ⌜ MonthDivided (monthWith month nonzone (tablesFrom (map now (tables .entry)))) (now (accounts .exit)) (now (owners .exit)) r ⌝ }
 {
-    let count = tables::rows_in(Table::Zones, zones.len()) as u64;
-    accounts::fill(nonzone, zones, accounts, loads, reservations, network, uses);
+    let count = columns::rows_of(tables, Table::Zones) as u64;
+    let mut uses = [0u64; MOST_ACCOUNTS];
+    accounts::fill(
+        nonzone,
+        tables,
+        &mut accounts[..NETWORK_CHARGES_END],
+        &mut uses,
+    );
     let first = network::credit(
-        zones,
-        owners,
-        accounts,
-        network,
-        networkcredits,
-        nonzonecredits,
+        tables,
+        &accounts[..NETWORK_CHARGES_END],
+        &mut owners[..NETWORK_CREDITS_END],
     );
     // With k zones the network has k + 1 divisions, so black start's begin at k + 1; it has 2k + 1, so reactive's begin at 3k + 2.
     let second = services::settle(
         BLACK_START,
         month,
-        zones,
-        owners,
-        units,
-        accounts,
-        uses,
-        blackstart,
-        blackstartcredits,
+        tables,
+        &uses,
+        &mut accounts[NETWORK_CHARGES_END..BLACK_START_CHARGES_END],
+        &mut owners[NETWORK_CREDITS_END..BLACK_START_CREDITS_END],
         count + 1,
     );
     let third = services::settle(
         REACTIVE,
         month,
-        zones,
-        owners,
-        units,
-        accounts,
-        uses,
-        reactive,
-        reactivecredits,
+        tables,
+        &uses,
+        &mut accounts[BLACK_START_CHARGES_END..REACTIVE_CHARGES_END],
+        &mut owners[BLACK_START_CREDITS_END..REACTIVE_CREDITS_END],
         3 * count + 2,
     );
     answer::in_turn(answer::in_turn(first, second), third)
 }
 
 // Settles a good month, with columns of its own.
-fn settle_good(
+fn settle_good<'a>(
     month: Month,
     nonzone: u64,
-    zones: &[u64],
-    owners: &[u64],
-    units: &[u64],
-    accounts: &[u64],
-    loads: &[u64],
-    reservations: &[u64],
+    tables: [&'a [u64]; TABLES],
     charges: &mut [u64],
     credits: &mut [u64],
 ) -> Answer
-    requires { ⌜ Settleable (inputOf (month .number) (month .days) nonzone (now zones) (now owners) (now units) (now accounts) (now loads) (now reservations)) ⌝ }
-    requires { ⌜ (rows Accounts (now accounts) * chargeWidth ≤ length (now charges)) × (rows Owners (now owners) * creditWidth ≤ length (now credits)) ⌝ }
-    ensures { λ r. ⌜ GoodSettled (inputOf (month .number) (month .days) nonzone (now (zones .entry)) (now (owners .entry)) (now (units .entry)) (now (accounts .entry)) (now (loads .entry)) (now (reservations .entry))) (now (charges .entry)) (now (charges .exit)) (now (credits .entry)) (now (credits .exit)) r ⌝ }
+    requires { ⌜ Settleable (monthWith month nonzone (tablesFrom (map now tables))) ⌝ }
+    requires { ⌜ (accountCount (monthWith month nonzone (tablesFrom (map now tables))) * chargeWidth ≤ length (now charges)) × (ownerCount (monthWith month nonzone (tablesFrom (map now tables))) * creditWidth ≤ length (now credits)) ⌝ }
+    ensures { λ r. ⌜ GoodSettled (monthWith month nonzone (tablesFrom (map now (tables .entry)))) (now (charges .entry)) (now (charges .exit)) (now (credits .entry)) (now (credits .exit)) r ⌝ }
 {
-    let mut network = [0u64; tables::MOST_ACCOUNTS];
-    let mut blackstart = [0u64; tables::MOST_ACCOUNTS];
-    let mut reactive = [0u64; tables::MOST_ACCOUNTS];
-    let mut uses = [0u64; tables::MOST_ACCOUNTS];
-    let mut networkcredits = [0u64; tables::MOST_OWNERS];
-    let mut nonzonecredits = [0u64; tables::MOST_OWNERS];
-    let mut blackstartcredits = [0u64; tables::MOST_OWNERS];
-    let mut reactivecredits = [0u64; tables::MOST_OWNERS];
-    let answer = divide_month(
-        month,
-        nonzone,
-        zones,
-        owners,
-        units,
-        accounts,
-        loads,
-        reservations,
-        &mut network,
-        &mut blackstart,
-        &mut reactive,
-        &mut uses,
-        &mut networkcredits,
-        &mut nonzonecredits,
-        &mut blackstartcredits,
-        &mut reactivecredits,
-    );
+    let mut accounts = [0u64; CHARGE_WIDTH * MOST_ACCOUNTS];
+    let mut owners = [0u64; CREDIT_WIDTH * MOST_OWNERS];
+    let answer = divide_month(month, nonzone, tables, &mut accounts, &mut owners);
     let number = answer.number;
     if number != ACCEPTED {
         return answer;
     }
-    output::write_charges(accounts, &network, &blackstart, &reactive, charges);
-    output::write_credits(
-        owners,
-        &networkcredits,
-        &nonzonecredits,
-        &blackstartcredits,
-        &reactivecredits,
+    output::lay(
+        &accounts,
+        CHARGE_WIDTH,
+        MOST_ACCOUNTS,
+        columns::rows_of(tables, Table::Accounts),
+        charges,
+    );
+    output::lay(
+        &owners,
+        CREDIT_WIDTH,
+        MOST_OWNERS,
+        columns::rows_of(tables, Table::Owners),
         credits,
     );
     answer
 }
 
-// Settles a month. Answers what `judgement::judge` answers where that refuses; then the first division that is refused, with BIG or
-// BASE, as table 9 with its place as row: with k zones, network zones 0 to k - 1, network non-zone k, then black start and
-// reactive, each zone's split and share in turn and last its non-zone pot. A refusal writes nothing. Acceptance is 0, 0, 0, and
-// writes each account's charges (network, black start, reactive) to the first words of `charges`, row by row, and each owner's
-// credits (network, non-zone network, black start, reactive) to the first words of `credits`; the words behind them stay.
-pub fn settle(
-    month: u64,
-    days: u64,
-    nonzone: u64,
-    zones: &[u64],
-    owners: &[u64],
-    units: &[u64],
-    accounts: &[u64],
-    loads: &[u64],
-    reservations: &[u64],
+// Settles a month. Answers what `judgement::judge` refuses; then the first division that is refused, with BIG or BASE, as table 9 with
+// its place as row: with k zones, network zones 0 to k - 1, network non-zone k, then black start and reactive, each zone's split and
+// share in turn and last its non-zone pot. A refusal writes nothing. Acceptance is 0, 0, 0, and writes each account's charges
+// (network, black start, reactive) to the first words of `charges`, row by row, and each owner's credits (network, non-zone network,
+// black start, reactive) to the first words of `credits`; the words behind them stay.
+pub fn settle<'a>(
+    head: Head,
+    tables: [&'a [u64]; TABLES],
     charges: &mut [u64],
     credits: &mut [u64],
 ) -> Answer
-    ensures { λ r. ⌜ Settled (inputOf month days nonzone (now (zones .entry)) (now (owners .entry)) (now (units .entry)) (now (accounts .entry)) (now (loads .entry)) (now (reservations .entry))) (now (charges .entry)) (now (charges .exit)) (now (credits .entry)) (now (credits .exit)) r ⌝ }
+    ensures { λ r. ⌜ Settled (monthOf head (tablesFrom (map now (tables .entry)))) (now (charges .entry)) (now (charges .exit)) (now (credits .entry)) (now (credits .exit)) r ⌝ }
 {
-    let judged = judgement::judge(
-        month,
-        days,
-        nonzone,
-        zones,
-        owners,
-        units,
-        accounts,
-        loads,
-        reservations,
-        charges.len(),
-        credits.len(),
-    );
-    let refusal = judged.number;
-    if refusal != ACCEPTED {
-        return judged;
+    match judgement::judge(head, tables, charges.len(), credits.len()) {
+        Judged::Good(month) => settle_good(month, head.nonzone, tables, charges, credits),
+        Judged::Refused(answer) => answer,
     }
-    settle_good(
-        Month {
-            number: month,
-            days,
-        },
-        nonzone,
-        zones,
-        owners,
-        units,
-        accounts,
-        loads,
-        reservations,
-        charges,
-        credits,
-    )
 }

@@ -1,7 +1,5 @@
-pub mod Joining
-pub mod Showing
 pub mod Totals
-pub mod Settling
+pub mod Held
 pub mod Stating
 pub mod Sizes
 pub mod Printing

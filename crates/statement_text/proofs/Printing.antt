@@ -20,20 +20,20 @@ use Rattle.tables.specs.Shape.{limit, chargeWidth, creditWidth}
 use Rattle.tables.specs.Columns.{ownerNumber, accountNumber}
 use Rattle.text.specs.Bytes.{bytes}
 use Rattle.text.specs.Numbers.{Found, found, missing, bound, Below}
-use Rattle.text.specs.Lines.{apart, line, lineText}
+use Rattle.text.specs.Lines.{unlike, line, lineText}
 use Rattle.text.proofs.Below.{below-none, below-cons, below-append}
 use Rattle.text.proofs.Lines.{line-text}
-use Rattle.monthfile.specs.Form.{Kind}
-use Rattle.monthfile.specs.Reading.{Outcome, got, refused, Rows, tables}
-use Rattle.monthfile.specs.Writing.{rowsText, tablesText}
-use Rattle.monthfile.specs.Calls.{nth}
-use Rattle.monthfile.proofs.Forms.{differs, allDiffer, no-row-end, tables-text}
+use Rattle.fileform.specs.Form.{Kind, plainKind}
+use Rattle.fileform.specs.Reading.{Outcome, got, refused, Rows, nth, tableLines}
+use Rattle.fileform.specs.Writing.{rowsText, tablesText}
+use Rattle.fileform.proofs.Forms.{differs, allDiffer, no-row-end, tables-text}
 use Rattle.pool.specs.Input.{Input, ownerCount, accountCount}
 use Rattle.settlement.specs.Settled.{laid, chargeOf, creditOf}
 use Rattle.settlement.specs.Columns.{figureAt}
 use Rattle.settlement.specs.Accepted.{Accepted}
 use Rattle.settlement.proofs.Written.{laid-at}
-use Rattle.statement_text.specs.Statement.{withNumber, rowsWith, linesText, allCharges, allCredits, statementLines, refuseLine, statementOf}
+use Rattle.statement_lines.specs.Lines.{withNumber, rowsWith, linesText, refuseLine}
+use Rattle.statement_text.specs.Statement.{allCharges, allCredits, statementLines, statementOf}
 use Rattle.statement_text.specs.Printed.{Lines, Printed, figuresIn, linesOf}
 use Rattle.statement_text.proofs.Totals.{totals-equal, charges-small}
 use Rattle.statement_text.proofs.Stating.{stated-as, fine}
@@ -81,16 +81,16 @@ module _ (count width : ℕ) (number : ℕ → ℕ) (figure : ℕ → ℕ → �
 
 -- the kinds of a statement's lines, so many at most of each
 abbrev chargeLines : ℕ → Kind
-chargeLines most = record { key = bytes "charge"; width = chargeWidth + 1; limit = most; table = 7 }
+chargeLines most = plainKind (bytes "charge") (chargeWidth + 1) most 7
 
 abbrev creditLines : ℕ → Kind
-creditLines most = record { key = bytes "credit"; width = creditWidth + 1; limit = most; table = 8 }
+creditLines most = plainKind (bytes "credit") (creditWidth + 1) most 8
 
 abbrev kinds : ℕ → ℕ → List Kind
 kinds most others = chargeLines most ∷ creditLines others ∷ []
 
 keys-differ : (most others : ℕ) → allDiffer (kinds most others) (bytes "total") ≡ true
-unfolding apart differs allDiffer
+unfolding unlike differs allDiffer
 keys-differ most others = refl
 
 abbrev rowsOf : Lines → List Rows
@@ -106,16 +106,16 @@ module _ {text : List ℕ} {l : Lines} (p : Printed text l) (most others : ℕ) 
   lines-are : text ≡ tablesText (kinds most others) (rowsOf l) ++ (totalLine l ++ [])
   unfolding linesText tablesText
   lines-are =
-      let charges : List ℕ = rowsText (bytes "charge") (chargeWidth + 1) (l .charges .count) (l .charges .words) in
-      let credits : List ℕ = rowsText (bytes "credit") (creditWidth + 1) (l .credits .count) (l .credits .words) in
+      let charges : List ℕ = rowsText (lineText (bytes "charge")) (chargeWidth + 1) (l .charges .count) (l .charges .words) in
+      let credits : List ℕ = rowsText (lineText (bytes "credit")) (creditWidth + 1) (l .credits .count) (l .credits .words) in
       p .text-is
       ∙ ap (λ k. charges ++ (credits ++ k)) (sym (append-nil (totalLine l)))
       ∙ sym (append-assoc charges credits (totalLine l ++ []))
       ∙ ap (λ k. (charges ++ k) ++ (totalLine l ++ [])) (sym (append-nil credits))
 
-  read-back : l .charges .count ≤ most → l .credits .count ≤ others → tables (kinds most others) text ≡ got (rowsOf l) (totalLine l ++ [])
+  read-back : l .charges .count ≤ most → l .credits .count ≤ others → tableLines (kinds most others) text ≡ got (rowsOf l) (totalLine l ++ [])
   read-back few fewer =
-      ap (tables (kinds most others)) lines-are
+      ap (tableLines (kinds most others)) lines-are
       ∙ tables-text (kinds most others) (rowsOf l) (bytes "total") (totalLine l ++ []) (
         record { whole = p .charges-whole .whole; few = few; below = p .charges-whole .below },
         (record { whole = p .credits-whole .whole; few = fewer; below = p .credits-whole .below }, tt),

@@ -12,16 +12,16 @@ use Rattle.tables.specs.Shape.{chargeWidth, creditWidth}
 use Rattle.text.specs.Bytes.{bytes}
 use Rattle.text.specs.Numbers.{digits, decimal, Below}
 use Rattle.text.specs.Lines.{fieldsText, lineText}
-use Rattle.monthfile.specs.Form.{monthForm}
-use Rattle.monthfile.specs.Reading.{got, refused, Contents, reading}
+use Rattle.fileform.specs.Form.{monthForm}
+use Rattle.fileform.specs.Reading.{got, refused, Contents, reading}
 use Rattle.pool.specs.Input.{Input}
+use Rattle.statement_lines.specs.Lines.{refuseLine}
 use Rattle.statement_text.specs.Statement.{
   allCharges,
   allCredits,
   statementLines,
   settledAnswer,
-  refuseLine,
-  monthOf,
+  monthHeld,
   foundText,
   mostBytes,
   mostShown,
@@ -74,8 +74,8 @@ accepted-is-no-refusal = sizes.month-no-refusal
 
 -- a file within the limit whose month is accepted has that month's lines: an accepted month is never refused
 pub accepted-is-stated : (text : List ℕ) (c : Contents) (rest : List ℕ) → length text ≤ mostBytes → reading monthForm text ≡ got c rest
-    → settledAnswer (monthOf c) .number ≡ 0 → statementOf text ≡ statementLines (monthOf c)
-accepted-is-stated text c rest h e z = stating.short-text text h ∙ ap foundText e ∙ stating.settled-accepted (monthOf c) z
+    → settledAnswer (monthHeld c) .number ≡ 0 → statementOf text ≡ statementLines (monthHeld c)
+accepted-is-stated text c rest h e z = stating.short-text text h ∙ ap foundText e ∙ stating.settled-accepted (monthHeld c) z
 
 -- "A refusal prints one line": a file within the limit that is refused has the line of its refusal ..
 pub refused-file-is-told : (text : List ℕ) (a : Answer) → length text ≤ mostBytes → reading monthForm text ≡ refused a → statementOf text ≡ refuseLine a
@@ -83,8 +83,8 @@ refused-file-is-told text a h e = stating.short-text text h ∙ ap foundText e
 
 -- .. and so has one whose month is refused
 pub refused-month-is-told : (text : List ℕ) (c : Contents) (rest : List ℕ) → length text ≤ mostBytes → reading monthForm text ≡ got c rest
-    → settledAnswer (monthOf c) .number ≢ 0 → statementOf text ≡ refuseLine (settledAnswer (monthOf c))
-refused-month-is-told text c rest h e d = stating.short-text text h ∙ ap foundText e ∙ stating.settled-refused (monthOf c) d
+    → settledAnswer (monthHeld c) .number ≢ 0 → statementOf text ≡ refuseLine (settledAnswer (monthHeld c))
+refused-month-is-told text c rest h e d = stating.short-text text h ∙ ap foundText e ∙ stating.settled-refused (monthHeld c) d
 
 -- two refusals with the same line are the same: number, table and row
 pub lines-tell-refusals-apart : (a b : Answer) → Below (a .number ∷ a .table ∷ a .row ∷ []) → Below (b .number ∷ b .table ∷ b .row ∷ [])

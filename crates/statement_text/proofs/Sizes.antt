@@ -17,17 +17,18 @@ use Rattle.answer.specs.declared.Answer.{Answer}
 use Rattle.tables.specs.declared.Table.the-variants.{Owners, Accounts}
 use Rattle.tables.specs.Shape.{limit, chargeWidth, creditWidth}
 use Rattle.text.specs.Bytes.{bytes}
-use Rattle.text.specs.Numbers.{byteOf, digits, decimal}
+use Rattle.text.specs.Numbers.{digitByte, digits, decimal}
 use Rattle.text.specs.Lines.{equals, separator, fieldsText, lineText}
 use Rattle.text.specs.Places.{stored}
 use Rattle.text.proofs.Stores.{stored-in-front}
-use Rattle.monthfile.specs.Writing.{rowsText}
+use Rattle.fileform.specs.Writing.{rowsText}
 use Rattle.pool.specs.Input.{Input, ownerCount, accountCount}
 use Rattle.settlement.specs.Accepted.{Accepted}
-use Rattle.statement_text.specs.declared.Shown.{Shown}
-use Rattle.statement_text.specs.Statement.{linesText, statementLines, settledAnswer, refuseLine, mostBytes, mostShown, statementOf}
+use Rattle.statement_lines.specs.declared.Shown.{Shown}
+use Rattle.statement_lines.specs.Lines.{linesText, refuseLine}
+use Rattle.statement_lines.proofs.Showing.{fitting-all}
+use Rattle.statement_text.specs.Statement.{statementLines, settledAnswer, mostBytes, mostShown, statementOf}
 use Rattle.statement_text.specs.Calls.{fitting, Shows, FileStated}
-use Rattle.statement_text.proofs.Showing.{fitting-all}
 use Rattle.statement_text.proofs.Stating.{stated-as, fine, long-text}
 
 either-short : (t : Bool) (x y : List ℕ) (most : ℕ) → length x ≤ most → length y ≤ most → length (cond t x y) ≤ most
@@ -38,8 +39,8 @@ digits-short : (most n : ℕ) → length (digits most n) ≤ most
 unfolding digits
 digits-short zero n = le-refl 0
 digits-short (suc most) n =
-    either-short (ltb n 10) (byteOf n ∷ []) (digits most (n / 10) ++ (byteOf (n % 10) ∷ [])) (suc most) (omega arith)
-    (omega (arith, length-append (digits most (n / 10)) (byteOf (n % 10) ∷ []), digits-short most (n / 10)))
+    either-short (ltb n 10) (digitByte n ∷ []) (digits most (n / 10) ++ (digitByte (n % 10) ∷ [])) (suc most) (omega arith)
+    (omega (arith, length-append (digits most (n / 10)) (digitByte (n % 10) ∷ []), digits-short most (n / 10)))
 
 fields-short : (ns : List ℕ) → length (fieldsText ns) ≤ length ns * 21
 unfolding fieldsText decimal
@@ -66,14 +67,14 @@ line-short key ns =
 take-short : (n : ℕ) (l : List ℕ) → length (take n l) ≤ n
 take-short n l = omega (arith, length-take n l)
 
-rows-short : (key : List ℕ) (width size : ℕ) → length key + 1 + width * 21 ≤ size → (n : ℕ) (words : List ℕ) → length (rowsText key width n words) ≤ n * size
+rows-short : (key : List ℕ) (width size : ℕ) → length key + 1 + width * 21 ≤ size → (n : ℕ) (words : List ℕ) → length (rowsText (lineText key) width n words) ≤ n * size
 unfolding rowsText
 rows-short key width size h zero words = omega arith
 rows-short key width size h (suc n) words =
     omega (
       arith,
       h,
-      length-append (lineText key (take width words)) (rowsText key width n (drop width words)),
+      length-append (lineText key (take width words)) (rowsText (lineText key) width n (drop width words)),
       line-short key (take width words),
       mul-le-mul-right 21 (take-short width words),
       rows-short key width size h n (drop width words),
@@ -86,8 +87,8 @@ unfolding linesText
 lines-short accounts charges owners credits x y =
     omega (
       arith,
-      length-append (rowsText (bytes "charge") 4 accounts charges) (rowsText (bytes "credit") 5 owners credits ++ lineText (bytes "total") (x ∷ y ∷ [])),
-      length-append (rowsText (bytes "credit") 5 owners credits) (lineText (bytes "total") (x ∷ y ∷ [])),
+      length-append (rowsText (lineText (bytes "charge")) 4 accounts charges) (rowsText (lineText (bytes "credit")) 5 owners credits ++ lineText (bytes "total") (x ∷ y ∷ [])),
+      length-append (rowsText (lineText (bytes "credit")) 5 owners credits) (lineText (bytes "total") (x ∷ y ∷ [])),
       rows-short (bytes "charge") 4 91 (omega arith) accounts charges,
       rows-short (bytes "credit") 5 112 (omega arith) owners credits,
       line-short (bytes "total") (x ∷ y ∷ []),

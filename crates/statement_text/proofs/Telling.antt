@@ -13,7 +13,8 @@ use Rattle.text.specs.Lines.{line}
 use Rattle.text.proofs.Lines.{line-text}
 use Rattle.pool.specs.Input.{Input}
 use Rattle.settlement.specs.Accepted.{Accepted}
-use Rattle.statement_text.specs.Statement.{withNumber, rowsWith, statementLines, refuseLine}
+use Rattle.statement_lines.specs.Lines.{withNumber, rowsWith, refuseLine}
+use Rattle.statement_text.specs.Statement.{statementLines}
 use Rattle.statement_text.specs.Told.{SameRows, SameFigures}
 use Rattle.statement_text.specs.Printed.{Lines, Printed, linesOf}
 use Rattle.statement_text.proofs.Printing.{word-at, numbers, printed-once, month-printed}

@@ -1,5 +1,4 @@
 pub mod Statement
 pub mod Calls
-pub mod Steps
 pub mod Told
 pub mod Printed

@@ -9,11 +9,12 @@ use Rattle.tables.specs.Shape.{chargeWidth, creditWidth}
 use Rattle.tables.specs.Columns.{ownerNumber, accountNumber}
 use Rattle.text.specs.Bytes.{bytes}
 use Rattle.text.specs.Numbers.{Below}
-use Rattle.monthfile.specs.Reading.{Rows}
+use Rattle.fileform.specs.Reading.{Rows}
 use Rattle.pool.specs.Input.{Input, ownerCount, accountCount}
 use Rattle.settlement.specs.Settled.{chargeOf, creditOf}
 use Rattle.settlement.specs.Columns.{figureAt}
-use Rattle.statement_text.specs.Statement.{rowsWith, linesText, allCharges, allCredits}
+use Rattle.statement_lines.specs.Lines.{rowsWith, linesText}
+use Rattle.statement_text.specs.Statement.{allCharges, allCredits}
 
 -- "account and three charges; owner and four credits; all charges and all credits": the rows of both kinds, and the numbers of `total`
 pub record Lines : Type 0 where

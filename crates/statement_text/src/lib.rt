@@ -1,18 +1,18 @@
 // The statement of a month: the file's bytes are read, the month is settled, and every account's charges, every owner's credits and
 // both totals are written as lines of text, or the one line of the first refusal. `specs/Statement.antt` has the statement of a
 // text, `proofs/Promises.antt` what follows from it.
-ghost use Rattle.tables.specs.Shape.{tablesOf};
-ghost use Rattle.statement_text.specs.Statement.{statementOf, foundText};
+ghost use mathlib.Core.List.{map};
+ghost use Rattle.tables.specs.Shape.{tablesFrom};
+ghost use Rattle.pool.specs.Input.{monthOf};
+ghost use Rattle.statement_text.specs.Statement.{settledText, statementOf};
 ghost use Rattle.statement_text.specs.Calls.{Shows, FileStated};
-ghost use Rattle.statement_text.specs.Steps.{Lent};
-ghost use Rattle.monthfile.specs.Form.{monthForm};
-ghost use Rattle.monthfile.specs.Reading.{reading};
 use answer::ACCEPTED;
-use answer::Answer;
-
-mod figures;
-mod joined;
-mod lines;
+use statement_lines::Shown;
+use statement_lines::show_month;
+use statement_lines::show_refusal;
+use tables::Head;
+use tables::TABLES;
+use tables::Table;
 
 // The most bytes that a month file may have.
 pub const MOST_BYTES: usize = 32_768;
@@ -23,52 +23,20 @@ pub const MOST_ASKED: usize = MOST_BYTES + 1;
 // The most bytes that a statement has.
 pub const MOST_SHOWN: usize = 10_128;
 
-// What `statement` answers: ROOM or acceptance, and the statement's length.
-pub struct Shown {
-    pub answer: Answer,
-    pub length: usize,
-}
-
-// The statement of a text, with working memory that is lent: the month's tables, its charges and its credits.
-fn state(
-    text: &[u8],
-    zones: &mut [u64],
-    owners: &mut [u64],
-    units: &mut [u64],
-    accounts: &mut [u64],
-    loads: &mut [u64],
-    reservations: &mut [u64],
-    charges: &mut [u64],
-    credits: &mut [u64],
-    out: &mut [u8],
-) -> Shown
-    requires { ⌜ Lent (tablesOf (now zones) (now owners) (now units) (now accounts) (now loads) (now reservations)) (now charges) (now credits) ⌝ }
-    ensures { λ r. ⌜ Shows (foundText (reading monthForm (now (text .entry)))) (now (out .entry)) (now (out .exit)) r ⌝ }
+// The statement of a month, from its head and tables: it is settled in working memory, and its lines are written, or the line of its
+// refusal.
+fn state_month<'a>(head: Head, tables: [&'a [u64]; TABLES], out: &mut [u8]) -> Shown
+    ensures { λ r. ⌜ Shows (settledText (monthOf head (tablesFrom (map now (tables .entry))))) (now (out .entry)) (now (out .exit)) r ⌝ }
 {
-    let settled = figures::settle_text(
-        text,
-        zones,
-        owners,
-        units,
-        accounts,
-        loads,
-        reservations,
-        charges,
-        credits,
-    );
-    let answer = settled.answer;
+    let mut charges = [0u64; tables::MOST_ACCOUNTS * tables::CHARGE_WIDTH];
+    let mut credits = [0u64; tables::MOST_OWNERS * tables::CREDIT_WIDTH];
+    let answer = settlement::settle(head, tables, &mut charges, &mut credits);
     if answer.number != ACCEPTED {
-        return lines::show_refusal(answer, out);
+        return show_refusal(answer, out);
     }
-    lines::show_month(
-        settled.accounts,
-        accounts,
-        charges,
-        settled.owners,
-        owners,
-        credits,
-        out,
-    )
+    let accounts = tables::words_of(tables, Table::Accounts);
+    let owners = tables::words_of(tables, Table::Owners);
+    show_month(accounts, &charges, owners, &credits, out)
 }
 
 // Writes the statement of a month file to the front of `out`: a line of charges for each account, a line of credits for each owner
@@ -78,7 +46,7 @@ pub fn statement(text: &[u8], out: &mut [u8]) -> Shown
     ensures { λ r. ⌜ Shows (statementOf (now (text .entry))) (now (out .entry)) (now (out .exit)) r ⌝ }
 {
     if MOST_BYTES < text.len() {
-        return lines::show_refusal(answer::refused(answer::COUNT, answer::HEAD, 0), out);
+        return show_refusal(answer::refused(answer::COUNT, answer::HEAD, 0), out);
     }
     let mut zones = [0u64; tables::MOST_ZONES * tables::ZONE_WIDTH];
     let mut owners = [0u64; tables::MOST_OWNERS * tables::OWNER_WIDTH];
@@ -86,9 +54,7 @@ pub fn statement(text: &[u8], out: &mut [u8]) -> Shown
     let mut accounts = [0u64; tables::MOST_ACCOUNTS * tables::ACCOUNT_WIDTH];
     let mut loads = [0u64; tables::MOST_LOADS * tables::LOAD_WIDTH];
     let mut reservations = [0u64; tables::MOST_RESERVATIONS * tables::RESERVATION_WIDTH];
-    let mut charges = [0u64; tables::MOST_ACCOUNTS * tables::CHARGE_WIDTH];
-    let mut credits = [0u64; tables::MOST_OWNERS * tables::CREDIT_WIDTH];
-    state(
+    let held = fileread::read(
         text,
         &mut zones,
         &mut owners,
@@ -96,8 +62,29 @@ pub fn statement(text: &[u8], out: &mut [u8]) -> Shown
         &mut accounts,
         &mut loads,
         &mut reservations,
-        &mut charges,
-        &mut credits,
+    );
+    let answer = held.answer;
+    if answer.number != ACCEPTED {
+        return show_refusal(answer, out);
+    }
+    let head = held.head;
+    let counts = held.counts;
+    let zonewords = counts[0] * tables::ZONE_WIDTH;
+    let ownerwords = counts[1] * tables::OWNER_WIDTH;
+    let unitwords = counts[2] * tables::UNIT_WIDTH;
+    let accountwords = counts[3] * tables::ACCOUNT_WIDTH;
+    let loadwords = counts[4] * tables::LOAD_WIDTH;
+    let reservationwords = counts[5] * tables::RESERVATION_WIDTH;
+    state_month(
+        head,
+        [
+            &zones[..zonewords],
+            &owners[..ownerwords],
+            &units[..unitwords],
+            &accounts[..accountwords],
+            &loads[..loadwords],
+            &reservations[..reservationwords],
+        ],
         out,
     )
 }

@@ -1,4 +1,5 @@
 pub mod Places
+pub mod Counting
 pub mod Tests
 pub mod Stages
 pub mod Unique

@@ -1,13 +1,16 @@
--- Rows laid end to end: every entry of a row lies within its table.
+-- Rows laid end to end: every entry of a row lies within its table. And tables by their place in the order of their numbers.
 -- Assumes nothing.
-use mathlib.Core.Path.{_≡_}
-use Prim.Native.Nat.{ℕ, _+_, _*_, _/_, _<_}
+use mathlib.Core.Path.{_≡_, refl}
+use mathlib.Core.Logic.{_≢_}
+use mathlib.Core.List.{List, []}
+use Prim.Native.Nat.{ℕ, zero, suc, _+_, _*_, _/_, _<_}
+use lib.ListN.{getD}
 use native.Mathlib.Nat.{lt-of-lt-of-le, div-mul-le-self}
 use native.Mathlib.Omega.{arith}
 use lib.Arith.{digits-lt}
 use Rattle.tables.specs.declared.Table.{Table}
 use Rattle.tables.specs.declared.Table.the-variants.{Zones, Owners, Units, Accounts, Loads, Reservations}
-use Rattle.tables.specs.Shape.{width}
+use Rattle.tables.specs.Shape.{tableCount, tableAt, placeOf, width, tablesFrom, wordsOf}
 
 pub within : (n width i column : ℕ) → i < n / width → column < width → i * width + column < n
 within n width i column h k = lt-of-lt-of-le (digits-lt h k) (div-mul-le-self n width)
@@ -23,3 +26,56 @@ width-pos Units = omega arith
 width-pos Accounts = omega arith
 width-pos Loads = omega arith
 width-pos Reservations = omega arith
+
+-- the last arm of the tables by place
+pub last-table : (k : ℕ) → k ≢ 0 → k ≢ 1 → k ≢ 2 → k ≢ 3 → k ≢ 4 → Reservations ≡ tableAt k
+last-table zero a b c d e = absurd (a refl)
+last-table (suc zero) a b c d e = absurd (b refl)
+last-table (suc (suc zero)) a b c d e = absurd (c refl)
+last-table (suc (suc (suc zero))) a b c d e = absurd (d refl)
+last-table (suc (suc (suc (suc zero)))) a b c d e = absurd (e refl)
+last-table (suc (suc (suc (suc (suc k))))) a b c d e = refl
+
+-- a table stands at its place, of which there are six
+pub table-placed : (table : Table) → tableAt (placeOf table) ≡ table
+table-placed Zones = refl
+table-placed Owners = refl
+table-placed Units = refl
+table-placed Accounts = refl
+table-placed Loads = refl
+table-placed Reservations = refl
+
+pub place-below : (table : Table) → placeOf table < tableCount
+place-below Zones = omega arith
+place-below Owners = omega arith
+place-below Units = omega arith
+place-below Accounts = omega arith
+place-below Loads = omega arith
+place-below Reservations = omega arith
+
+pub place-at : (k : ℕ) → k < tableCount → placeOf (tableAt k) ≡ k
+place-at zero h = refl
+place-at (suc zero) h = refl
+place-at (suc (suc zero)) h = refl
+place-at (suc (suc (suc zero))) h = refl
+place-at (suc (suc (suc (suc zero)))) h = refl
+place-at (suc (suc (suc (suc (suc zero))))) h = refl
+place-at (suc (suc (suc (suc (suc (suc k)))))) h = absurd (omega (arith, h))
+
+-- its words are those at that place of a list
+pub words-placed : (l : List (List ℕ)) (table : Table) → getD l (placeOf table) [] ≡ wordsOf (tablesFrom l) table
+words-placed l Zones = refl
+words-placed l Owners = refl
+words-placed l Units = refl
+words-placed l Accounts = refl
+words-placed l Loads = refl
+words-placed l Reservations = refl
+
+pub words-at : (l : List (List ℕ)) (k : ℕ) → k < tableCount → getD l k [] ≡ wordsOf (tablesFrom l) (tableAt k)
+words-at l zero h = refl
+words-at l (suc zero) h = refl
+words-at l (suc (suc zero)) h = refl
+words-at l (suc (suc (suc zero))) h = refl
+words-at l (suc (suc (suc (suc zero)))) h = refl
+words-at l (suc (suc (suc (suc (suc zero))))) h = refl
+words-at l (suc (suc (suc (suc (suc (suc k)))))) h = absurd (omega (arith, h))

@@ -3,17 +3,19 @@
 use mathlib.Core.Path.{_≡_, refl, sym, ap, subst, _∙_}
 use mathlib.Core.Logic.{⊎-elim, _≢_}
 use mathlib.Core.Bool.{Bool, true, false}
-use Prim.Native.Nat.{ℕ, suc, _-_, _≤_, _<_}
+use Prim.Native.Nat.{ℕ, zero, suc, _-_, _≤_, _<_}
+use native.Mathlib.Nat.{le-of-suc-le}
 use native.Mathlib.Omega.{arith}
 use Rattle.lists.proofs.Sums.{last-or-below}
 use Rattle.lists.proofs.Ranks.{lt-or-le}
 use Rattle.answer.specs.declared.Answer.{Answer}
-use Rattle.answer.specs.Turns.{look, accepted, refuse, _then_, refusal}
-use Rattle.answer.proofs.Turns.{zero-or-not, then-first, then-second, refuse-none, refuse-some, refuse-number}
+use Rattle.answer.specs.Turns.{look, accepted, refuse, _then_, refusal, turns}
+use Rattle.answer.proofs.Turns.{zero-or-not, then-first, then-second, refuse-none, refuse-some, refuse-number, turns-all}
 use Rattle.tables.specs.declared.Table.{Table}
 use Rattle.tables.specs.declared.Table.the-variants.{Zones, Owners, Units, Accounts, Loads, Reservations}
-use Rattle.tables.specs.Shape.{number, tableAt}
-use Rattle.tables.specs.Counts.{inTurn}
+use Rattle.tables.specs.Shape.{number, tableCount, tableAt, placeOf}
+use Rattle.tables.specs.Counts.{tablesInTurn}
+use Rattle.tables.proofs.Places.{table-placed, place-below}
 use Rattle.tables.proofs.Tests.{Tests, breaks}
 
 pub data Stage (Good : Type 0) (Bad : Answer → Type 0) (a : Answer) : Type 0 where
@@ -78,6 +80,15 @@ from-one Accounts = omega arith
 from-one Loads = omega arith
 from-one Reservations = omega arith
 
+number-at : (k : ℕ) → k < tableCount → number (tableAt k) ≡ suc k
+number-at zero h = refl
+number-at (suc zero) h = refl
+number-at (suc (suc zero)) h = refl
+number-at (suc (suc (suc zero))) h = refl
+number-at (suc (suc (suc (suc zero)))) h = refl
+number-at (suc (suc (suc (suc (suc zero))))) h = refl
+number-at (suc (suc (suc (suc (suc (suc k)))))) h = absurd (omega (arith, h))
+
 to-six : (table : Table) → number table < 7
 to-six Zones = omega arith
 to-six Owners = omega arith
@@ -101,16 +112,21 @@ module _ (G : Table → Type 0) (B : Answer → Type 0) (f : Table → Answer) (
   next : (table : Table) → Upto G (number table) → Stage (Upto G (suc (number table))) B (f table)
   next table before = passed-on (one-more table before) (stage table before)
 
-  pub in-turn-stage : Stage ((table : Table) → G table) B (inTurn f)
-  unfolding inTurn
-  in-turn-stage =
-      passed-on (λ all table. all table (to-six table))
-      (then-stage
-      (then-stage
-      (then-stage
-      (then-stage
-      (then-stage (next Zones (λ earlier h. absurd (omega (arith, from-one earlier)))) (next Owners))
-      (next Units))
-      (next Accounts))
-      (next Loads))
-      (next Reservations))
+  -- the first k tables
+  first-tables : (k : ℕ) → k ≤ tableCount → Stage (Upto G (suc k)) B (turns (λ i. f (tableAt i)) k)
+  unfolding turns
+  first-tables zero h = passed refl (λ earlier l. absurd (omega (arith, l, from-one earlier)))
+  first-tables (suc k) h =
+      let here : number (tableAt k) ≡ suc k = number-at k h in
+      then-stage (first-tables k (le-of-suc-le h)) (λ before.
+      subst (λ n. Stage (Upto G (suc n)) B (f (tableAt k))) here (next (tableAt k) (subst (Upto G) (sym here) before)))
+
+  pub in-turn-stage : Stage ((table : Table) → G table) B (tablesInTurn f)
+  unfolding tablesInTurn
+  in-turn-stage = passed-on (λ all table. all table (to-six table)) (first-tables tableCount (omega arith))
+
+-- where nothing is refused in turn, no table is
+pub in-turn-all : (f : Table → Answer) → tablesInTurn f .number ≡ 0 → (table : Table) → f table .number ≡ 0
+unfolding tablesInTurn
+in-turn-all f e table =
+    ap (λ t. f t .number) (sym (table-placed table)) ∙ turns-all (λ k. f (tableAt k)) tableCount e (placeOf table) (place-below table)

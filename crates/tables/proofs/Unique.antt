@@ -5,12 +5,10 @@ use mathlib.Core.List.{List}
 use Prim.Native.Nat.{ℕ, _/_}
 use Rattle.lists.proofs.Unique.{one-answer}
 use Rattle.answer.specs.declared.Answer.{Answer}
-use Rattle.answer.specs.Turns.{_then_}
 use Rattle.tables.specs.declared.Table.{Table}
-use Rattle.tables.specs.declared.Table.the-variants.{Zones, Owners, Units, Accounts, Loads, Reservations}
-use Rattle.tables.specs.Shape.{number, width, limit}
+use Rattle.tables.specs.Shape.{number, tableAt, placeOf, width, keyColumns, limit, tablesFrom}
 use Rattle.tables.specs.Columns.{entry}
-use Rattle.tables.specs.Counts.{counted}
+use Rattle.tables.specs.Counts.{countsInTurn}
 
 pub number-unique : (table : Table) (r s : ℕ) → r ≡ number table → s ≡ number table → r ≡ s
 number-unique table r s = one-answer _ r s
@@ -27,5 +25,14 @@ rows-in-unique table words r s = one-answer _ r s
 pub entry-unique : (table : Table) (column : ℕ) (words : List ℕ) (i r s : ℕ) → r ≡ entry table column words i → s ≡ entry table column words i → r ≡ s
 entry-unique table column words i r s = one-answer _ r s
 
-pub judge-counts-unique : (zones owners units accounts loads reservations : ℕ) (r s : Answer) → r ≡ (counted Zones zones then counted Owners owners then counted Units units then counted Accounts accounts then counted Loads loads then counted Reservations reservations) → s ≡ (counted Zones zones then counted Owners owners then counted Units units then counted Accounts accounts then counted Loads loads then counted Reservations reservations) → r ≡ s
-judge-counts-unique zones owners units accounts loads reservations r s = one-answer _ r s
+pub table-at-unique : (place : ℕ) (r s : Table) → r ≡ tableAt place → s ≡ tableAt place → r ≡ s
+table-at-unique place r s = one-answer _ r s
+
+pub place-of-unique : (table : Table) (r s : ℕ) → r ≡ placeOf table → s ≡ placeOf table → r ≡ s
+place-of-unique table r s = one-answer _ r s
+
+pub key-columns-unique : (table : Table) (r s : ℕ) → r ≡ keyColumns table → s ≡ keyColumns table → r ≡ s
+key-columns-unique table r s = one-answer _ r s
+
+pub count-tables-unique : (tables : List (List ℕ)) (r s : Answer) → r ≡ countsInTurn (tablesFrom tables) → s ≡ countsInTurn (tablesFrom tables) → r ≡ s
+count-tables-unique tables r s = one-answer _ r s

@@ -7,14 +7,13 @@ use lib.Dec.{eqb, ltb}
 use lib.ListN.{length}
 use Rattle.answer.specs.declared.Answer.{Answer}
 use Rattle.answer.specs.Numbers.{COUNT, ROOM}
-use Rattle.answer.specs.Turns.{look, refuse, _then_}
+use Rattle.answer.specs.Turns.{look, refuse, turns}
 use Rattle.tables.specs.declared.Table.{Table}
-use Rattle.tables.specs.declared.Table.the-variants.{Zones, Owners, Units, Accounts, Loads, Reservations}
-use Rattle.tables.specs.Shape.{number, width, limit, rows, Tables, wordsOf}
+use Rattle.tables.specs.Shape.{tableCount, tableAt, number, width, limit, rows, Tables, wordsOf}
 
 -- "tables 1 to 6", in turn
-unfoldable pub inTurn : (Table → Answer) → Answer
-inTurn f = f Zones then f Owners then f Units then f Accounts then f Loads then f Reservations
+unfoldable pub tablesInTurn : (Table → Answer) → Answer
+tablesInTurn f = turns (λ k. f (tableAt k)) tableCount
 
 -- "COUNT .. a table isn't whole rows; a table .. is over its limit"
 unfoldable pub counted : Table → ℕ → Answer
@@ -24,11 +23,15 @@ counted table words =
     (number table)
     0
 
+-- .. of every table in turn
+unfoldable pub countsInTurn : Tables → Answer
+countsInTurn t = tablesInTurn (λ table. counted table (length (wordsOf t table)))
+
 -- "ROOM .. a lent output is too short"
 unfoldable pub roomFor : ℕ → ℕ → ℕ → Answer
 roomFor output needed lent = refuse (look (ltb lent needed) ROOM 0) output 0
 
 -- a table is whole rows, and no more than it may have
-pub record Counted (t : Tables) (table : Table) : Type 0 where
+pub record GoodCount (t : Tables) (table : Table) : Type 0 where
   pub whole : length (wordsOf t table) % width table ≡ 0
   pub few : rows table (wordsOf t table) ≤ limit table

@@ -1,4 +1,3 @@
 pub mod Shape
 pub mod Columns
-pub mod Limits
 pub mod Counts

@@ -1,8 +1,10 @@
 // COUNT: whether each table is whole rows, and no more of them than it may have.
 ghost use mathlib.Core.Path.{_≡_};
+ghost use mathlib.Core.List.{map};
 ghost use Rattle.answer.specs.Turns.{_then_};
-ghost use Rattle.tables.specs.declared.Table.the-variants.{Zones, Owners, Units, Accounts, Loads, Reservations};
-ghost use Rattle.tables.specs.Counts.{counted};
+ghost use Rattle.tables.specs.Shape.{tablesFrom};
+ghost use Rattle.tables.specs.Counts.{counted, countsInTurn};
+use crate::TABLES;
 use crate::Table;
 use answer::Answer;
 
@@ -16,26 +18,20 @@ fn judge_count(before: Answer, table: Table, words: usize) -> Answer
     answer::look_at(before, count, crate::number(table))
 }
 
-// COUNT for tables 1 to 6, each of so many words.
-pub fn judge_counts(
-    zones: usize,
-    owners: usize,
-    units: usize,
-    accounts: usize,
-    loads: usize,
-    reservations: usize,
-) -> Answer
-    ensures { λ r. ⌜ r ≡ (counted Zones zones then counted Owners owners then counted Units units then counted Accounts accounts then counted Loads loads then counted Reservations reservations) ⌝ }
+// COUNT for every table in turn.
+pub fn count_tables<'a>(tables: [&'a [u64]; TABLES]) -> Answer
+    ensures { λ r. ⌜ r ≡ countsInTurn (tablesFrom (map now (tables .entry))) ⌝ }
 {
-    let nothing = Answer {
+    let mut answer = Answer {
         number: answer::ACCEPTED,
         table: answer::HEAD,
         row: 0,
     };
-    let first = judge_count(nothing, Table::Zones, zones);
-    let second = judge_count(first, Table::Owners, owners);
-    let third = judge_count(second, Table::Units, units);
-    let fourth = judge_count(third, Table::Accounts, accounts);
-    let fifth = judge_count(fourth, Table::Loads, loads);
-    judge_count(fifth, Table::Reservations, reservations)
+    let mut k = 0;
+    while k < TABLES {
+        let words = tables[k];
+        answer = judge_count(answer, crate::table_at(k), words.len());
+        k += 1;
+    }
+    answer
 }

@@ -1,12 +1,24 @@
-// The shape of a month's tables 1 to 6: the number of each, how many entries its rows have, how many rows it may have, and the
-// limits of what stands in them. A table is named by a `Table`; its rows lie end to end in one slice of words. `columns` has
-// each entry of a row by name, and `counts` judges whether tables are whole rows and no more than they may have.
+// The shape of a month's head and of its tables 1 to 6: the number of each table, how many entries its rows have, by how many of
+// them they ascend, how many rows it may have, and the limits of what stands in them. A table is named by a `Table`; its rows lie
+// end to end in one slice of words, and the tables that are only read go as one array of such slices, in the order of their numbers.
+// `columns` has each entry of a row by name, and `counts` judges whether tables are whole rows and no more than they may have.
 ghost use mathlib.Core.Path.{_≡_};
+ghost use mathlib.Core.List.{map};
 ghost use Prim.Native.Nat.{_/_};
-ghost use Rattle.tables.specs.Shape.{number, width, limit};
+ghost use Rattle.tables.specs.Shape.{number, tableAt, placeOf, width, keyColumns, limit, tablesFrom, wordsOf};
 
 pub mod columns;
 pub mod counts;
+
+// The head of a month, three plain numbers: which month, how many days it has, the non-zone rate.
+pub struct Head {
+    pub month: u64,
+    pub days: u64,
+    pub nonzone: u64,
+}
+
+// How many tables there are.
+pub const TABLES: usize = 6;
 
 // One of tables 1 to 6.
 pub enum Table {
@@ -87,6 +99,55 @@ pub fn number(table: Table) -> u64
         Table::Accounts => answer::ACCOUNTS,
         Table::Loads => answer::LOADS,
         Table::Reservations => answer::RESERVATIONS,
+    }
+}
+
+// The table at a place, in the order of their numbers; a place behind them is taken for the last.
+pub fn table_at(place: usize) -> Table
+    ensures { λ r. ⌜ r ≡ tableAt place ⌝ }
+{
+    match place {
+        0 => Table::Zones,
+        1 => Table::Owners,
+        2 => Table::Units,
+        3 => Table::Accounts,
+        4 => Table::Loads,
+        _ => Table::Reservations,
+    }
+}
+
+// The place of a table.
+pub fn place_of(table: Table) -> usize
+    ensures { λ r. ⌜ r ≡ placeOf table ⌝ }
+{
+    match table {
+        Table::Zones => 0,
+        Table::Owners => 1,
+        Table::Units => 2,
+        Table::Accounts => 3,
+        Table::Loads => 4,
+        Table::Reservations => 5,
+    }
+}
+
+// The words of one of the tables.
+pub fn words_of<'a>(tables: [&'a [u64]; TABLES], table: Table) -> &'a [u64]
+    ensures { λ r. ⌜ now r ≡ wordsOf (tablesFrom (map now (tables .entry))) table ⌝ }
+{
+    tables[place_of(table)]
+}
+
+// How many entries in front are the key by which the rows of a table ascend.
+pub fn key_columns(table: Table) -> usize
+    ensures { λ r. ⌜ r ≡ keyColumns table ⌝ }
+{
+    match table {
+        Table::Zones => 1,
+        Table::Owners => 1,
+        Table::Units => 1,
+        Table::Accounts => 1,
+        Table::Loads => 2,
+        Table::Reservations => 1,
     }
 }
 

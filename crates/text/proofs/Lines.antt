@@ -10,8 +10,8 @@ use lib.ListN.{length}
 use borrow.Author.Tests.{eq-eqb, ne-eqb, eqb-true, eqb-false}
 use Rattle.lists.specs.Sums.{at}
 use Rattle.lists.proofs.Ranks.{true-or-false}
-use Rattle.text.specs.Numbers.{Found, found, missing, isDigit, bound, Below, number, decimal}
-use Rattle.text.specs.Lines.{comma, equals, separator, behind, past, apart, field, fields, line, fieldsText, lineText}
+use Rattle.text.specs.Numbers.{Found, found, missing, isDigit, bound, Below, firstNumber, decimal}
+use Rattle.text.specs.Lines.{comma, equals, separator, behind, past, unlike, field, fields, line, fieldsText, lineText}
 use Rattle.text.proofs.Below.{below-none, below-cons}
 use Rattle.text.proofs.Numbers.{never, digit-low, number-decimal, decimal-number, Decimal}
 
@@ -64,8 +64,8 @@ past-back (b ∷ bytes) go (c ∷ s) a t e =
     (true-or-false (eqb c b))
 
 -- bytes that differ from those that must stand first
-pub past-apart : {A : Type 0} (x y : List ℕ) (go : List ℕ → Found A) (s : List ℕ) → apart x y ≡ true → past x go (y ++ s) ≡ missing
-unfolding apart
+pub past-apart : {A : Type 0} (x y : List ℕ) (go : List ℕ → Found A) (s : List ℕ) → unlike x y ≡ true → past x go (y ++ s) ≡ missing
+unfolding unlike
 past-apart [] y go s e = absurd (true≢false (sym e))
 past-apart (a ∷ x) [] go s e = absurd (true≢false (sym e))
 past-apart (a ∷ x) (b ∷ y) go s e =
@@ -83,11 +83,11 @@ pub separator-more : (following : ℕ) → following ≢ 0 → comma ≡ separat
 separator-more zero d = absurd (d refl)
 separator-more (suc following) d = refl
 
-pub field-of-missing : (following : ℕ) (s : List ℕ) → number s ≡ missing → field following s ≡ missing
+pub field-of-missing : (following : ℕ) (s : List ℕ) → firstNumber s ≡ missing → field following s ≡ missing
 unfolding field
 field-of-missing following s e = rw e
 
-pub field-of-found : (following : ℕ) (s : List ℕ) (n : ℕ) (t : List ℕ) → number s ≡ found n t
+pub field-of-found : (following : ℕ) (s : List ℕ) (n : ℕ) (t : List ℕ) → firstNumber s ≡ found n t
     → field following s ≡ past (separator following ∷ []) (found n) t
 unfolding field
 field-of-found following s n t e = rw e
@@ -102,9 +102,9 @@ field-text following n rest h =
 pub field-back : (following : ℕ) (s : List ℕ) (n : ℕ) (rest : List ℕ) → field following s ≡ found n rest
     → Decimal n s (separator following ∷ rest)
 unfolding field
-field-back following s n rest e = go (number s) refl e
+field-back following s n rest e = go (firstNumber s) refl e
   where
-    go : (o : Found ℕ) → number s ≡ o → behind o (λ m t. past (separator following ∷ []) (found m) t) ≡ found n rest
+    go : (o : Found ℕ) → firstNumber s ≡ o → behind o (λ m t. past (separator following ∷ []) (found m) t) ≡ found n rest
         → Decimal n s (separator following ∷ rest)
     go missing p q = absurd (never refl q)
     go (found m t) p q =
@@ -214,7 +214,7 @@ line-back key width s ns rest e =
     }
 
 -- a line with another key does not fit, and nothing fits at the text's end
-pub line-apart : (key other : List ℕ) (width : ℕ) (ns rest : List ℕ) → apart (key ++ (equals ∷ [])) (other ++ (equals ∷ [])) ≡ true
+pub line-apart : (key other : List ℕ) (width : ℕ) (ns rest : List ℕ) → unlike (key ++ (equals ∷ [])) (other ++ (equals ∷ [])) ≡ true
     → line key width (lineText other ns ++ rest) ≡ missing
 unfolding line lineText
 line-apart key other width ns rest e =

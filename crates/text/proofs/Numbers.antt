@@ -12,7 +12,7 @@ use lib.Dec.{leb, ltb, lit<, lit≤}
 use lib.ListN.{length, length-append}
 use borrow.Author.Tests.{lt-ltb, le-ltb, le-leb, lt-leb, ne-eqb, ltb-true, leb-true}
 use Rattle.lists.proofs.Ranks.{true-or-false, lt-or-le}
-use Rattle.text.specs.Numbers.{Found, found, missing, zeroByte, byteOf, digitOf, isDigit, bound, digitsOn, number, digits, mostDigits, decimal}
+use Rattle.text.specs.Numbers.{Found, found, missing, zeroByte, digitByte, digitOf, isDigit, bound, digitsOn, firstNumber, digits, mostDigits, decimal}
 
 -- nothing is both found and missing
 pub never : {A : Type 0} {o : Found A} {a : A} {s : List ℕ} → o ≡ missing → o ≡ found a s → ⊥
@@ -61,28 +61,28 @@ pub on-end : (n : ℕ) → digitsOn n [] ≡ found n []
 unfolding digitsOn
 on-end n = refl
 
-pub number-zero : (byte : ℕ) (s : List ℕ) → byte ≡ zeroByte → number (byte ∷ s) ≡ found 0 s
-unfolding number isDigit
+pub number-zero : (byte : ℕ) (s : List ℕ) → byte ≡ zeroByte → firstNumber (byte ∷ s) ≡ found 0 s
+unfolding firstNumber isDigit
 number-zero byte s e = rw e
 
-pub number-first : (byte : ℕ) (s : List ℕ) → isDigit byte ≡ true → byte ≢ zeroByte → number (byte ∷ s) ≡ digitsOn (digitOf byte) s
-unfolding number
+pub number-first : (byte : ℕ) (s : List ℕ) → isDigit byte ≡ true → byte ≢ zeroByte → firstNumber (byte ∷ s) ≡ digitsOn (digitOf byte) s
+unfolding firstNumber
 number-first byte s e d = rw (e, ne-eqb byte 48 d)
 
-pub number-other : (byte : ℕ) (s : List ℕ) → isDigit byte ≡ false → number (byte ∷ s) ≡ missing
-unfolding number
+pub number-other : (byte : ℕ) (s : List ℕ) → isDigit byte ≡ false → firstNumber (byte ∷ s) ≡ missing
+unfolding firstNumber
 number-other byte s e = rw e
 
-pub number-end : number [] ≡ missing
-unfolding number
+pub number-end : firstNumber [] ≡ missing
+unfolding firstNumber
 number-end = refl
 
 -- a number below 10 has one digit, any other those of its tenth and its last one
-pub digits-one : (most n : ℕ) → n < 10 → digits (suc most) n ≡ byteOf n ∷ []
+pub digits-one : (most n : ℕ) → n < 10 → digits (suc most) n ≡ digitByte n ∷ []
 unfolding digits
 digits-one most n h = rw (lt-ltb n 10 h)
 
-pub digits-more : (most n : ℕ) → 10 ≤ n → digits (suc most) n ≡ digits most (n / 10) ++ (byteOf (n % 10) ∷ [])
+pub digits-more : (most n : ℕ) → 10 ≤ n → digits (suc most) n ≡ digits most (n / 10) ++ (digitByte (n % 10) ∷ [])
 unfolding digits
 digits-more most n h = rw (le-ltb n 10 h)
 
@@ -99,30 +99,30 @@ digits-room (suc most) n h =
     (λ (low : n < 10). digits-one (suc most) n low ∙ sym (digits-one (suc (suc most)) n low))
     (λ (high : 10 ≤ n).
     digits-more (suc most) n high
-    ∙ ap (λ front. front ++ (byteOf (n % 10) ∷ [])) (digits-room most (n / 10) (tenth most n h))
+    ∙ ap (λ front. front ++ (digitByte (n % 10) ∷ [])) (digits-room most (n / 10) (tenth most n h))
     ∙ sym (digits-more (suc (suc most)) n high))
     (lt-or-le n 10)
 
 -- the digits of a number above 0 in front of a text
-one-read : (n : ℕ) (t : List ℕ) → n < 10 → 0 < n → number (byteOf n ∷ t) ≡ digitsOn n t
+one-read : (n : ℕ) (t : List ℕ) → n < 10 → 0 < n → firstNumber (digitByte n ∷ t) ≡ digitsOn n t
 one-read n t h p =
-    let back : digitOf (byteOf n) ≡ n = omega arith in
-    number-first (byteOf n) t (digit-is (byteOf n) (omega arith) (omega arith)) (λ e. let z : 48 + n ≡ 48 = e in omega arith)
+    let back : digitOf (digitByte n) ≡ n = omega arith in
+    number-first (digitByte n) t (digit-is (digitByte n) (omega arith) (omega arith)) (λ e. let z : 48 + n ≡ 48 = e in omega arith)
     ∙ ap (λ k. digitsOn k t) back
 
-digits-read : (most n : ℕ) (t : List ℕ) → n < 10 ^ suc most → 0 < n → n < bound → number (digits (suc most) n ++ t) ≡ digitsOn n t
+digits-read : (most n : ℕ) (t : List ℕ) → n < 10 ^ suc most → 0 < n → n < bound → firstNumber (digits (suc most) n ++ t) ≡ digitsOn n t
 digits-read zero n t h p b =
     let low : n < 10 = h in
-    ap (λ ds. number (ds ++ t)) (digits-one zero n low) ∙ one-read n t low p
+    ap (λ ds. firstNumber (ds ++ t)) (digits-one zero n low) ∙ one-read n t low p
 digits-read (suc most) n t h p b =
     ⊎-elim
-    (λ (low : n < 10). ap (λ ds. number (ds ++ t)) (digits-one (suc most) n low) ∙ one-read n t low p)
+    (λ (low : n < 10). ap (λ ds. firstNumber (ds ++ t)) (digits-one (suc most) n low) ∙ one-read n t low p)
     (λ (high : 10 ≤ n).
-    let last : ℕ = byteOf (n % 10) in
+    let last : ℕ = digitByte (n % 10) in
     let whole : n / 10 * 10 + digitOf last ≡ n = omega arith in
     let fits : n / 10 * 10 + digitOf last < bound = omega arith in
-    ap (λ ds. number (ds ++ t)) (digits-more (suc most) n high)
-    ∙ ap number (append-assoc (digits (suc most) (n / 10)) (last ∷ []) t)
+    ap (λ ds. firstNumber (ds ++ t)) (digits-more (suc most) n high)
+    ∙ ap firstNumber (append-assoc (digits (suc most) (n / 10)) (last ∷ []) t)
     ∙ digits-read most (n / 10) (last ∷ t) (tenth most n h) (omega arith) (omega arith)
     ∙ on-digit (n / 10) last t (digit-is last (omega arith) (omega arith)) fits
     ∙ ap (λ k. digitsOn k t) whole)
@@ -132,31 +132,31 @@ room : {n : ℕ} → n < bound → n < 10 ^ mostDigits
 room h = lt-of-lt-of-le h (lit≤ tt)
 
 -- the decimal of a number, followed by what is no digit, reads as that number
-pub number-decimal : (n : ℕ) (byte : ℕ) (s : List ℕ) → n < bound → isDigit byte ≡ false → number (decimal n ++ (byte ∷ s)) ≡ found n (byte ∷ s)
+pub number-decimal : (n : ℕ) (byte : ℕ) (s : List ℕ) → n < bound → isDigit byte ≡ false → firstNumber (decimal n ++ (byte ∷ s)) ≡ found n (byte ∷ s)
 unfolding decimal
 number-decimal n byte s h e =
     ⊎-elim
     (λ (z : n < 1).
     let none : n ≡ 0 = omega arith in
-    ap (λ k. number (digits mostDigits k ++ (byte ∷ s))) none
-    ∙ ap (λ ds. number (ds ++ (byte ∷ s))) (digits-one 19 0 (lit< tt))
-    ∙ number-zero (byteOf 0) (byte ∷ s) refl
+    ap (λ k. firstNumber (digits mostDigits k ++ (byte ∷ s))) none
+    ∙ ap (λ ds. firstNumber (ds ++ (byte ∷ s))) (digits-one 19 0 (lit< tt))
+    ∙ number-zero (digitByte 0) (byte ∷ s) refl
     ∙ ap (λ k. found k (byte ∷ s)) (sym none))
     (λ (p : 1 ≤ n). digits-read 19 n (byte ∷ s) (room h) p h ∙ on-other n byte s e)
     (lt-or-le n 1)
 
 -- a digit behind a number above 0
-pub decimal-on : (n d : ℕ) → 0 < n → d < 10 → n * 10 + d < bound → decimal (n * 10 + d) ≡ decimal n ++ (byteOf d ∷ [])
+pub decimal-on : (n d : ℕ) → 0 < n → d < 10 → n * 10 + d < bound → decimal (n * 10 + d) ≡ decimal n ++ (digitByte d ∷ [])
 unfolding decimal
 decimal-on n d p h b =
     let front : (n * 10 + d) / 10 ≡ n = omega arith in
     let last : (n * 10 + d) % 10 ≡ d = omega arith in
     let small : n < 10 ^ 19 = omega arith in
     digits-more 19 (n * 10 + d) (omega arith)
-    ∙ ap₂ (λ k m. digits 19 k ++ (byteOf m ∷ [])) front last
-    ∙ ap (λ ds. ds ++ (byteOf d ∷ [])) (digits-room 18 n small)
+    ∙ ap₂ (λ k m. digits 19 k ++ (digitByte m ∷ [])) front last
+    ∙ ap (λ ds. ds ++ (digitByte d ∷ [])) (digits-room 18 n small)
 
-pub decimal-one : (n : ℕ) → n < 10 → decimal n ≡ byteOf n ∷ []
+pub decimal-one : (n : ℕ) → n < 10 → decimal n ≡ digitByte n ∷ []
 unfolding decimal
 decimal-one n h = digits-one 19 n h
 
@@ -178,12 +178,12 @@ on-back n (byte ∷ s) m rest p h e =
     ⊎-elim
     (λ (fits : n * 10 + digitOf byte < bound).
     let range : (48 ≤ byte) × (byte < 58) = digit-range byte d in
-    let back : byteOf (digitOf byte) ≡ byte = omega arith in
+    let back : digitByte (digitOf byte) ≡ byte = omega arith in
     let more : Decimal m (decimal (n * 10 + digitOf byte) ++ s) rest =
     on-back (n * 10 + digitOf byte) s m rest (omega arith) fits (sym (on-digit n byte s d fits) ∙ e) in
     let moved : decimal (n * 10 + digitOf byte) ++ s ≡ decimal n ++ (byte ∷ s) =
     ap (λ ds. ds ++ s) (decimal-on n (digitOf byte) p (omega arith) fits)
-    ∙ append-assoc (decimal n) (byteOf (digitOf byte) ∷ []) s
+    ∙ append-assoc (decimal n) (digitByte (digitOf byte) ∷ []) s
     ∙ ap (λ k. decimal n ++ (k ∷ s)) back in
     record { written = sym moved ∙ more .written; small = more .small })
     (λ (big : bound ≤ n * 10 + digitOf byte). absurd (never (on-big n byte s d big) e))
@@ -196,7 +196,7 @@ on-back n (byte ∷ s) m rest p h e =
     (true-or-false (isDigit byte))
 
 -- what reads as a number is its decimal
-pub decimal-number : (s : List ℕ) (n : ℕ) (rest : List ℕ) → number s ≡ found n rest → Decimal n s rest
+pub decimal-number : (s : List ℕ) (n : ℕ) (rest : List ℕ) → firstNumber s ≡ found n rest → Decimal n s rest
 decimal-number [] n rest e = absurd (never number-end e)
 decimal-number (byte ∷ s) n rest e =
     ⊎-elim
@@ -216,7 +216,7 @@ decimal-number (byte ∷ s) n rest e =
       small = subst (λ k. k < bound) value (lit< tt);
     })
     (λ (high : 49 ≤ byte).
-    let back : byteOf (digitOf byte) ≡ byte = omega arith in
+    let back : digitByte (digitOf byte) ≡ byte = omega arith in
     let more : Decimal n (decimal (digitOf byte) ++ s) rest =
     on-back (digitOf byte) s n rest (omega arith) (omega arith)
     (sym (number-first byte s d (λ q. let z : byte ≡ 48 = q in omega arith)) ∙ e) in
@@ -253,10 +253,10 @@ unfolding decimal
 length-decimal n = length-digits 19 n
 
 -- the decimal of a number above 9 is that of its tenth and one digit more
-pub decimal-tenth : (n : ℕ) → 10 ≤ n → n < bound → decimal n ≡ decimal (n / 10) ++ (byteOf (n % 10) ∷ [])
+pub decimal-tenth : (n : ℕ) → 10 ≤ n → n < bound → decimal n ≡ decimal (n / 10) ++ (digitByte (n % 10) ∷ [])
 decimal-tenth n h b =
     let whole : n / 10 * 10 + n % 10 ≡ n = omega arith in
     ap decimal (sym whole) ∙ decimal-on (n / 10) (n % 10) (omega arith) (omega arith) (omega arith)
 
 pub length-tenth : (n : ℕ) → 10 ≤ n → n < bound → length (decimal n) ≡ length (decimal (n / 10)) + 1
-length-tenth n h b = ap length (decimal-tenth n h b) ∙ length-append (decimal (n / 10)) (byteOf (n % 10) ∷ [])
+length-tenth n h b = ap length (decimal-tenth n h b) ∙ length-append (decimal (n / 10)) (digitByte (n % 10) ∷ [])

@@ -9,7 +9,7 @@ use lib.Seq.{length-take-le}
 use Rattle.lists.specs.Sums.{at}
 use Rattle.text.specs.Numbers.{decimal}
 use Rattle.text.specs.Lines.{equals, separator, fieldsText, lineText}
-use Rattle.text.specs.Places.{stored, Put}
+use Rattle.text.specs.Places.{stored, PutAt}
 use Rattle.text.proofs.Places.{drop-next}
 use Rattle.text.proofs.Stores.{stored-append, stored-first, put-append, put-one}
 
@@ -53,7 +53,7 @@ module _ (words : List ℕ) (left next : ℕ) (p : 0 < left) (h : next + left �
       ∙ (let q : length (decimal (at words next)) + suc (length (fieldsText (take (left - 1) (drop (next + 1) words))))
       ≡ length (decimal (at words next)) + (1 + length (fieldsText (take (left - 1) (drop (next + 1) words)))) = omega arith in q)
 
-  pub put-next : (out : List ℕ) (i n behind : ℕ) (mid : List ℕ) → Put out i (decimal (at words next)) n mid → behind ≡ separator (left - 1)
+  pub put-next : (out : List ℕ) (i n behind : ℕ) (mid : List ℕ) → PutAt out i (decimal (at words next)) n mid → behind ≡ separator (left - 1)
       → stored (set mid n behind) (n + 1) (fieldsText (take (left - 1) (drop (next + 1) words)))
       ≡ stored out i (fieldsText (take left (drop next words)))
   put-next out i n behind mid w e =
@@ -65,8 +65,8 @@ module _ (words : List ℕ) (left next : ℕ) (p : 0 < left) (h : next + left �
       ∙ ap (stored out i) (sym text-next)
 
 -- a key, its equals sign and the fields, one after the other
-pub put-keyed : (out : List ℕ) (i : ℕ) (key ns : List ℕ) (n m : ℕ) (mid after : List ℕ) → Put out i key n mid
-    → Put (set mid n equals) (n + 1) (fieldsText ns) m after → Put out i (lineText key ns) m after
+pub put-keyed : (out : List ℕ) (i : ℕ) (key ns : List ℕ) (n m : ℕ) (mid after : List ℕ) → PutAt out i key n mid
+    → PutAt (set mid n equals) (n + 1) (fieldsText ns) m after → PutAt out i (lineText key ns) m after
 unfolding lineText
 put-keyed out i key ns n m mid after p q =
     put-append out i (key ++ (equals ∷ [])) (fieldsText ns) (n + 1) m (set mid n equals) after

@@ -11,7 +11,7 @@ use lib.ListN.{length, set, drop, drop-of-length-le, length-drop, length-append}
 use lib.Seq.{drop-cons, drop-drop, drop-at}
 use Rattle.lists.specs.Sums.{at}
 use Rattle.text.specs.declared.number.Number.{Number}
-use Rattle.text.specs.Numbers.{Found, found, missing, zeroByte, digitOf, isDigit, bound, digitsOn, number}
+use Rattle.text.specs.Numbers.{Found, found, missing, zeroByte, digitOf, isDigit, bound, digitsOn, firstNumber}
 use Rattle.text.specs.Lines.{equals, separator, behind, past, field, fields, line}
 use Rattle.text.specs.Places.{NumberAt, LineAt, KeyAt, fieldsOf, restOf, stored}
 use Rattle.text.proofs.Lines.{past-none, past-end, past-same, past-other, past-back, Behind, field-of-missing, field-of-found, withFirst, fields-none, fields-on, fields-stop}
@@ -57,23 +57,23 @@ module _ (s : List ℕ) (o : Found ℕ) (value i : ℕ) (same : o ≡ digitsOn v
 
 -- the first digit
 module _ (s : List ℕ) (i : ℕ) where
-  pub number-stops : length s ≤ i → NumberAt s (number (drop i s)) (record { value = 0; next = 0 })
-  number-stops h = number-missing s (number (drop i s)) (ap number (drop-end s i h) ∙ number-end)
+  pub number-stops : length s ≤ i → NumberAt s (firstNumber (drop i s)) (record { value = 0; next = 0 })
+  number-stops h = number-missing s (firstNumber (drop i s)) (ap firstNumber (drop-end s i h) ∙ number-end)
 
-  pub number-no-digit : i < length s → isDigit (at s i) ≡ false → NumberAt s (number (drop i s)) (record { value = 0; next = 0 })
+  pub number-no-digit : i < length s → isDigit (at s i) ≡ false → NumberAt s (firstNumber (drop i s)) (record { value = 0; next = 0 })
   number-no-digit h d =
-      number-missing s (number (drop i s)) (ap number (drop-next s i h) ∙ number-other (at s i) (drop (i + 1) s) d)
+      number-missing s (firstNumber (drop i s)) (ap firstNumber (drop-next s i h) ∙ number-other (at s i) (drop (i + 1) s) d)
 
-  pub number-is-zero : i < length s → at s i ≡ zeroByte → NumberAt s (number (drop i s)) (record { value = 0; next = i + 1 })
+  pub number-is-zero : i < length s → at s i ≡ zeroByte → NumberAt s (firstNumber (drop i s)) (record { value = 0; next = i + 1 })
   number-is-zero h e =
-      number-found s (number (drop i s)) 0 (i + 1) (omega arith) (omega arith)
-      (ap number (drop-next s i h) ∙ number-zero (at s i) (drop (i + 1) s) e)
+      number-found s (firstNumber (drop i s)) 0 (i + 1) (omega arith) (omega arith)
+      (ap firstNumber (drop-next s i h) ∙ number-zero (at s i) (drop (i + 1) s) e)
 
   pub number-goes-on : i < length s → isDigit (at s i) ≡ true → at s i ≢ zeroByte → (first : ℕ) → first ≡ digitOf (at s i)
-      → (r : Number) → NumberAt s (digitsOn first (drop (i + 1) s)) r → NumberAt s (number (drop i s)) r
+      → (r : Number) → NumberAt s (digitsOn first (drop (i + 1) s)) r → NumberAt s (firstNumber (drop i s)) r
   number-goes-on h d q first e r a =
       subst (λ o. NumberAt s o r)
-      (ap (λ k. digitsOn k (drop (i + 1) s)) e ∙ sym (number-first (at s i) (drop (i + 1) s) d q) ∙ ap number (sym (drop-next s i h))) a
+      (ap (λ k. digitsOn k (drop (i + 1) s)) e ∙ sym (number-first (at s i) (drop (i + 1) s) d q) ∙ ap firstNumber (sym (drop-next s i h))) a
 
 -- a key with its equals sign, byte by byte
 module _ (key s rest : List ℕ) (k i : ℕ)
@@ -121,7 +121,7 @@ module _ (key s rest : List ℕ) (k i : ℕ)
       }
 
 -- a field: a number, and what stands behind it
-module _ (s : List ℕ) (i following : ℕ) (r : Number) (a : NumberAt s (number (drop i s)) r) where
+module _ (s : List ℕ) (i following : ℕ) (r : Number) (a : NumberAt s (firstNumber (drop i s)) r) where
   pub field-none : r .next ≡ 0 → NumberAt s (field following (drop i s)) (record { value = 0; next = 0 })
   field-none z = number-missing s (field following (drop i s)) (field-of-missing following (drop i s) (a .unfit z .0))
 

@@ -8,7 +8,7 @@ use native.Mathlib.Numerals.{add-one}
 use native.Mathlib.Omega.{arith}
 use lib.ListN.{length, take, drop, set, length-append}
 use lib.Seq.{sets, length-sets, sets-eq, set-comm}
-use Rattle.text.specs.Places.{stored, Put, Sized}
+use Rattle.text.specs.Places.{stored, PutAt, Sized}
 
 pub stored-none : (l : List ℕ) (at : ℕ) → stored l at [] ≡ l
 unfolding stored
@@ -53,7 +53,7 @@ stored-last l at (x ∷ xs) v =
     ∙ stored-last (set l at x) (suc at) xs v
 
 -- writers in a row
-pub put-append : (l : List ℕ) (at : ℕ) (x y : List ℕ) (n m : ℕ) (k j : List ℕ) → Put l at x n k → Put k n y m j → Put l at (x ++ y) m j
+pub put-append : (l : List ℕ) (at : ℕ) (x y : List ℕ) (n m : ℕ) (k j : List ℕ) → PutAt l at x n k → PutAt k n y m j → PutAt l at (x ++ y) m j
 put-append l at x y n m k j p q =
     record {
       onward =
@@ -65,10 +65,10 @@ put-append l at x y n m k j p q =
           q .written ∙ ap₂ (λ k i. stored k i y) (p .written) (p .onward) ∙ sym (stored-append l at x y);
     }
 
-pub put-nothing : (l : List ℕ) (at : ℕ) → Put l at [] at l
+pub put-nothing : (l : List ℕ) (at : ℕ) → PutAt l at [] at l
 put-nothing l at = record { onward = sym (add-zero at); written = sym (stored-none l at) }
 
-pub put-one : (l : List ℕ) (at v : ℕ) → Put l at (v ∷ []) (at + 1) (set l at v)
+pub put-one : (l : List ℕ) (at v : ℕ) → PutAt l at (v ∷ []) (at + 1) (set l at v)
 put-one l at v = record { onward = refl; written = sym (stored-one l at v) }
 
 -- sizes in a row
@@ -89,7 +89,7 @@ sized-most before x cap n p = let a : n ≡ min (before + length x) cap = p .cap
 pub fits-first : (l : List ℕ) (at : ℕ) (x y : List ℕ) → at + length (x ++ y) ≤ length l → at + length x ≤ length l
 fits-first l at x y h = omega (arith, length-append x y)
 
-pub fits-on : (l : List ℕ) (at : ℕ) (x y : List ℕ) (n : ℕ) (k : List ℕ) → Put l at x n k → length k ≡ length l → at + length (x ++ y) ≤ length l
+pub fits-on : (l : List ℕ) (at : ℕ) (x y : List ℕ) (n : ℕ) (k : List ℕ) → PutAt l at x n k → length k ≡ length l → at + length (x ++ y) ≤ length l
     → n + length y ≤ length k
 fits-on l at x y n k p e h =
     let a : n ≡ at + length x = p .onward in

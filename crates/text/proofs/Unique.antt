@@ -16,7 +16,7 @@ use Rattle.text.specs.declared.reader.Reader.{Reader}
 use Rattle.text.specs.declared.reader.Ends.{Ends}
 use Rattle.text.specs.Numbers.{Found, found, missing}
 use Rattle.text.specs.Lines.{line}
-use Rattle.text.specs.Places.{NumberAt, LineAt, EndAt, Put, Sized, Taken}
+use Rattle.text.specs.Places.{NumberAt, LineAt, EndAt, PutAt, Sized, FieldsTaken}
 use Rattle.text.specs.Readers.{Stepped, EndsAt}
 use Rattle.text.proofs.Numbers.{never}
 
@@ -78,9 +78,9 @@ end-at-unique s i o n m a b =
     same-place s o i n m ((λ d. (a .inside d, a .fits d)), a .unfit) ((λ d. (b .inside d, b .fits d)), b .unfit)
 
 -- `reader::take_next_line`
-pub taken-unique : (s : List ℕ) (o : Found (List ℕ)) (lent : List ℕ) (place n m : ℕ) (after after′ : List ℕ)
-    → Taken s o lent place n after → Taken s o lent place m after′ → (n ≡ m) × (after ≡ after′)
-taken-unique s o lent place n m after after′ a b =
+pub fields-taken-unique : (s : List ℕ) (o : Found (List ℕ)) (lent : List ℕ) (place n m : ℕ) (after after′ : List ℕ)
+    → FieldsTaken s o lent place n after → FieldsTaken s o lent place m after′ → (n ≡ m) × (after ≡ after′)
+fields-taken-unique s o lent place n m after after′ a b =
     (same-offset s n m (a .inside) (b .inside) (sym (a .behind) ∙ b .behind), a .written ∙ sym (b .written))
 
 -- `line_size`; `number_size` and `add_capped` say what their answer is equal to
@@ -88,9 +88,9 @@ pub sized-unique : (before : ℕ) (bytes : List ℕ) (cap n m : ℕ) → Sized b
 sized-unique before bytes cap n m a b = a .capped ∙ sym (b .capped)
 
 -- `put_number`, `put_bytes`, `put_line`
-pub put-unique : (lent : List ℕ) (at : ℕ) (bytes : List ℕ) (n m : ℕ) (after after′ : List ℕ)
-    → Put lent at bytes n after → Put lent at bytes m after′ → (n ≡ m) × (after ≡ after′)
-put-unique lent at bytes n m after after′ a b = (a .onward ∙ sym (b .onward), a .written ∙ sym (b .written))
+pub put-at-unique : (lent : List ℕ) (at : ℕ) (bytes : List ℕ) (n m : ℕ) (after after′ : List ℕ)
+    → PutAt lent at bytes n after → PutAt lent at bytes m after′ → (n ≡ m) × (after ≡ after′)
+put-at-unique lent at bytes n m after after′ a b = (a .onward ∙ sym (b .onward), a .written ∙ sym (b .written))
 
 pub reader-at-unique : (text : RefT (List ℕ)) (i : ℕ) (r q : Reader) → (r .text ≡ text) × (r .at ≡ i) → (q .text ≡ text) × (q .at ≡ i) → r ≡ q
 reader-at-unique text i r q a b =

@@ -5,7 +5,7 @@ use mathlib.Core.Bool.{Bool, true, false, cond}
 use mathlib.Core.List.{List, [], _∷_, _++_}
 use lib.Dec.{eqb}
 use lib.ListN.{length}
-use Rattle.text.specs.Numbers.{Found, found, missing, number, decimal}
+use Rattle.text.specs.Numbers.{Found, found, missing, firstNumber, decimal}
 
 abbrev pub comma : ℕ
 comma = 44
@@ -35,14 +35,14 @@ past (b ∷ bytes) go (c ∷ s) =
     cond (eqb c b) more missing
 
 -- whether two lists of bytes differ somewhere, as far as both go
-unfoldable pub apart : List ℕ → List ℕ → Bool
-apart [] y = false
-apart (a ∷ x) [] = false
-apart (a ∷ x) (b ∷ y) = cond (eqb a b) (apart x y) true
+unfoldable pub unlike : List ℕ → List ℕ → Bool
+unlike [] y = false
+unlike (a ∷ x) [] = false
+unlike (a ∷ x) (b ∷ y) = cond (eqb a b) (unlike x y) true
 
 -- a field with what stands behind it, where so many more follow
 unfoldable pub field : ℕ → List ℕ → Found ℕ
-field following s = behind (number s) (λ n t. past (separator following ∷ []) (found n) t)
+field following s = behind (firstNumber s) (λ n t. past (separator following ∷ []) (found n) t)
 
 -- so many fields
 unfoldable pub fields : ℕ → List ℕ → Found (List ℕ)

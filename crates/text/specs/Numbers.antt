@@ -16,8 +16,8 @@ abbrev pub zeroByte : ℕ
 zeroByte = 48
 
 -- the byte of a digit, and the digit of a byte
-abbrev pub byteOf : ℕ → ℕ
-byteOf digit = zeroByte + digit
+abbrev pub digitByte : ℕ → ℕ
+digitByte digit = zeroByte + digit
 
 abbrev pub digitOf : ℕ → ℕ
 digitOf byte = byte - zeroByte
@@ -42,9 +42,9 @@ digitsOn n (byte ∷ s) =
     cond (isDigit byte) (cond (ltb m bound) more missing) (found n (byte ∷ s))
 
 -- the decimal at the front of a text: a digit 0 is a number by itself, and no other digit follows it
-unfoldable pub number : List ℕ → Found ℕ
-number [] = missing
-number (byte ∷ s) =
+unfoldable pub firstNumber : List ℕ → Found ℕ
+firstNumber [] = missing
+firstNumber (byte ∷ s) =
     let more : Found ℕ = digitsOn (digitOf byte) s in
     cond (isDigit byte) (cond (eqb byte zeroByte) (found 0 s) more) missing
 
@@ -53,7 +53,7 @@ unfoldable pub digits : ℕ → ℕ → List ℕ
 digits zero n = []
 digits (suc most) n =
     let front : List ℕ = digits most (n / 10) in
-    cond (ltb n 10) (byteOf n ∷ []) (front ++ (byteOf (n % 10) ∷ []))
+    cond (ltb n 10) (digitByte n ∷ []) (front ++ (digitByte (n % 10) ∷ []))
 
 -- the most digits that a number below 2^64 has
 abbrev pub mostDigits : ℕ

@@ -49,7 +49,7 @@ unfoldable pub stored : List ℕ → ℕ → List ℕ → List ℕ
 stored lent at entries = sets lent at entries
 
 -- what a writer leaves: the bytes at their place, the rest untouched, and the place behind them
-pub record Put (lent : List ℕ) (at : ℕ) (bytes : List ℕ) (next : ℕ) (after : List ℕ) : Type 0 where
+pub record PutAt (lent : List ℕ) (at : ℕ) (bytes : List ℕ) (next : ℕ) (after : List ℕ) : Type 0 where
   pub onward : next ≡ at + length bytes
   pub written : after ≡ stored lent at bytes
 
@@ -58,7 +58,7 @@ pub record Sized (before : ℕ) (bytes : List ℕ) (cap size : ℕ) : Type 0 whe
   pub capped : size ≡ min (before + length bytes) cap
 
 -- what a reader of fields leaves: the fields at their place, the rest untouched, and the offset behind them
-pub record Taken (s : List ℕ) (o : Found (List ℕ)) (lent : List ℕ) (place next : ℕ) (after : List ℕ) : Type 0 where
+pub record FieldsTaken (s : List ℕ) (o : Found (List ℕ)) (lent : List ℕ) (place next : ℕ) (after : List ℕ) : Type 0 where
   pub inside : next ≤ length s
   pub behind : restOf o ≡ drop next s
   pub written : after ≡ stored lent place (fieldsOf o)

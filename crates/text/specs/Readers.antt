@@ -10,7 +10,7 @@ use denote.Ref.{now}
 use Rattle.text.specs.declared.reader.Reader.{Reader}
 use Rattle.text.specs.declared.reader.Ends.{Ends}
 use Rattle.text.specs.Lines.{line}
-use Rattle.text.specs.Places.{EndAt, Taken}
+use Rattle.text.specs.Places.{EndAt, FieldsTaken}
 
 -- a reader before and after a step over a line: it holds the same text, and stands behind the line, or where it stood
 pub record Stepped (before : Reader) (key : List ℕ) (width : ℕ) (after : Reader) : Type 0 where
@@ -20,7 +20,7 @@ pub record Stepped (before : Reader) (key : List ℕ) (width : ℕ) (after : Rea
 -- a reader before and after a step over a line that it takes: the same text, behind the line, and the line's fields at their place
 pub record TookOne (before : Reader) (key : List ℕ) (width : ℕ) (lent : List ℕ) (place : ℕ) (after : Reader) (words : List ℕ) : Type 0 where
   pub same : after .text ≡ before .text
-  pub taken : Taken (now (before .text)) (line key width (drop (before .at) (now (before .text)))) lent place (after .at) words
+  pub taken : FieldsTaken (now (before .text)) (line key width (drop (before .at) (now (before .text)))) lent place (after .at) words
 
 -- where one reader stood after each of two steps: the second line is looked for where the first one ended
 pub record EndsAt (s : List ℕ) (at : ℕ) (one two : List ℕ) (width : ℕ) (ends : Ends) : Type 0 where

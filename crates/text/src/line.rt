@@ -5,7 +5,7 @@ ghost use Prim.Native.Nat.{_+_, _≤_, _<_};
 ghost use lib.ListN.{length, take, drop};
 ghost use Rattle.text.specs.Numbers.{missing};
 ghost use Rattle.text.specs.Lines.{separator, field, fields, line, fieldsText, lineText};
-ghost use Rattle.text.specs.Places.{NumberAt, LineAt, EndAt, KeyAt, Put, Sized, Taken};
+ghost use Rattle.text.specs.Places.{NumberAt, LineAt, EndAt, KeyAt, PutAt, Sized, FieldsTaken};
 use crate::number;
 use crate::number::Number;
 
@@ -116,7 +116,7 @@ pub fn line_end(text: &[u8], at: usize, key: &[u8], width: usize) -> usize
 // Stores the fields at `at` in `words` from `place` on, and answers the offset behind them.
 fn take_fields(text: &[u8], at: usize, width: usize, words: &mut [u64], place: usize) -> usize
     requires { ⌜ (at ≤ length (now text)) × (fields width (drop at (now text)) ≢ missing) × (place + width ≤ length (now words)) ⌝ }
-    ensures { λ r. ⌜ Taken (now (text .entry)) (fields width (drop at (now (text .entry)))) (now (words .entry)) place r (now (words .exit)) ⌝ }
+    ensures { λ r. ⌜ FieldsTaken (now (text .entry)) (fields width (drop at (now (text .entry)))) (now (words .entry)) place r (now (words .exit)) ⌝ }
 {
     let mut i = at;
     let mut left = width;
@@ -141,7 +141,7 @@ pub(crate) fn take_line(
     place: usize,
 ) -> usize
     requires { ⌜ (line (now key) width (drop at (now text)) ≢ missing) × (place + width ≤ length (now words)) ⌝ }
-    ensures { λ r. ⌜ Taken (now (text .entry)) (line (now (key .entry)) width (drop at (now (text .entry)))) (now (words .entry)) place r (now (words .exit)) ⌝ }
+    ensures { λ r. ⌜ FieldsTaken (now (text .entry)) (line (now (key .entry)) width (drop at (now (text .entry)))) (now (words .entry)) place r (now (words .exit)) ⌝ }
 {
     take_fields(text, at + key.len() + 1, width, words, place)
 }
@@ -181,7 +181,7 @@ pub fn line_size(
 // Writes bytes at `at`, and answers the place behind them.
 pub fn put_bytes(bytes: &[u8], out: &mut [u8], at: usize) -> usize
     requires { ⌜ at + length (now bytes) ≤ length (now out) ⌝ }
-    ensures { λ r. ⌜ Put (now (out .entry)) at (now (bytes .entry)) r (now (out .exit)) ⌝ }
+    ensures { λ r. ⌜ PutAt (now (out .entry)) at (now (bytes .entry)) r (now (out .exit)) ⌝ }
 {
     let mut i = at;
     let mut k = 0;
@@ -196,7 +196,7 @@ pub fn put_bytes(bytes: &[u8], out: &mut [u8], at: usize) -> usize
 // Writes so many fields from `from` on at `at`, each with what stands behind it, and answers the place behind them.
 fn put_fields(words: &[u64], from: usize, width: usize, out: &mut [u8], at: usize) -> usize
     requires { ⌜ (from + width ≤ length (now words)) × (at + length (fieldsText (take width (drop from (now words)))) ≤ length (now out)) ⌝ }
-    ensures { λ r. ⌜ Put (now (out .entry)) at (fieldsText (take width (drop from (now (words .entry))))) r (now (out .exit)) ⌝ }
+    ensures { λ r. ⌜ PutAt (now (out .entry)) at (fieldsText (take width (drop from (now (words .entry))))) r (now (out .exit)) ⌝ }
 {
     let mut i = at;
     let mut left = width;
@@ -221,7 +221,7 @@ pub fn put_line(
     at: usize,
 ) -> usize
     requires { ⌜ (from + width ≤ length (now words)) × (at + length (lineText (now key) (take width (drop from (now words)))) ≤ length (now out)) ⌝ }
-    ensures { λ r. ⌜ Put (now (out .entry)) at (lineText (now (key .entry)) (take width (drop from (now (words .entry))))) r (now (out .exit)) ⌝ }
+    ensures { λ r. ⌜ PutAt (now (out .entry)) at (lineText (now (key .entry)) (take width (drop from (now (words .entry))))) r (now (out .exit)) ⌝ }
 {
     let i = put_bytes(key, out, at);
     out[i] = EQUALS;

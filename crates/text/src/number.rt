@@ -3,8 +3,8 @@ ghost use mathlib.Core.Path.{_≡_};
 ghost use mathlib.Core.Bool.{true};
 ghost use Prim.Native.Nat.{_+_, _≤_, _<_, min};
 ghost use lib.ListN.{length, drop};
-ghost use Rattle.text.specs.Numbers.{isDigit, digitOf, digitsOn, number, decimal};
-ghost use Rattle.text.specs.Places.{NumberAt, Put};
+ghost use Rattle.text.specs.Numbers.{isDigit, digitOf, digitsOn, firstNumber, decimal};
+ghost use Rattle.text.specs.Places.{NumberAt, PutAt};
 
 const ZERO: u8 = b'0';
 
@@ -67,7 +67,7 @@ fn digits_on(text: &[u8], at: usize, first: u64) -> Number
 
 // The number at `at`: a digit 0 by itself, or every digit from there on.
 pub fn number_at(text: &[u8], at: usize) -> Number
-    ensures { λ r. ⌜ NumberAt (now (text .entry)) (number (drop at (now (text .entry)))) r ⌝ }
+    ensures { λ r. ⌜ NumberAt (now (text .entry)) (firstNumber (drop at (now (text .entry)))) r ⌝ }
 {
     if text.len() <= at {
         return Number { value: 0, next: 0 };
@@ -101,7 +101,7 @@ pub fn number_size(number: u64) -> usize
 // Writes a number at `at`, its last digit first, and answers the place behind it.
 pub fn put_number(number: u64, out: &mut [u8], at: usize) -> usize
     requires { ⌜ at + length (decimal number) ≤ length (now out) ⌝ }
-    ensures { λ r. ⌜ Put (now (out .entry)) at (decimal number) r (now (out .exit)) ⌝ }
+    ensures { λ r. ⌜ PutAt (now (out .entry)) at (decimal number) r (now (out .exit)) ⌝ }
 {
     let end = at + number_size(number);
     let mut i = end;

@@ -5,7 +5,7 @@ ghost use Prim.Native.Nat.{_+_, _≤_};
 ghost use lib.ListN.{length, drop};
 ghost use Rattle.text.specs.Numbers.{missing};
 ghost use Rattle.text.specs.Lines.{line};
-ghost use Rattle.text.specs.Places.{LineAt, Taken};
+ghost use Rattle.text.specs.Places.{LineAt, FieldsTaken};
 ghost use Rattle.text.specs.Readers.{Stepped, TookOne, EndsAt, reachedOf};
 use crate::line;
 
@@ -98,7 +98,7 @@ pub fn take_next_line(
     place: usize,
 ) -> usize
     requires { ⌜ (line (now key) width (drop at (now text)) ≢ missing) × (place + width ≤ length (now words)) ⌝ }
-    ensures { λ r. ⌜ Taken (now (text .entry)) (line (now (key .entry)) width (drop at (now (text .entry)))) (now (words .entry)) place r (now (words .exit)) ⌝ }
+    ensures { λ r. ⌜ FieldsTaken (now (text .entry)) (line (now (key .entry)) width (drop at (now (text .entry)))) (now (words .entry)) place r (now (words .exit)) ⌝ }
 {
     let moved = step_taking(reader_at(text, at), key, width, words, place);
     moved.at

@@ -12,7 +12,7 @@ use Rattle.closeness.specs.Closeness.{distance, Closest}
 use Rattle.division.specs.Limits.{mostWeights, potLimit, weightLimit, divideRefusal}
 use Rattle.division.specs.Shares.{shares, Divided}
 use Rattle.division.specs.declared.Division.{Division}
-use Rattle.verdict.specs.Check.{checkRefusal, verdict, yes, no, neither, meaning, answerOf}
+use Rattle.verdict.specs.Check.{checkRefusal, verdict, yes, no, neither, meaning, verdictAnswer}
 use Rattle.verdict.specs.Refused.{FineCheck, CheckRefused}
 use Rattle.verdict.proofs.Reasons as reasons
 use Rattle.verdict.proofs.Verdicts as verdicts
@@ -31,7 +31,7 @@ check-refused-why pot weights amounts n = (reasons.check-why pot weights amounts
 
 -- "table and row are 0" in the answer of every check
 pub check-answers : (pot : ℕ) (weights amounts : List ℕ)
-    → answerOf (verdict pot weights amounts) ≡ record { number = checkRefusal pot weights amounts; table = 0; row = 0 }
+    → verdictAnswer (verdict pot weights amounts) ≡ record { number = checkRefusal pot weights amounts; table = 0; row = 0 }
 check-answers pot weights amounts = λ i. record { number = verdicts.its-number pot weights amounts i; table = 0; row = 0 }
 
 -- "A refused check says neither yes nor no": it says neither exactly when it is refused ..

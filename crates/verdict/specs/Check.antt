@@ -7,7 +7,7 @@ use lib.Dec.{ltb, eqb}
 use lib.ListN.{length}
 use Rattle.lists.specs.Sums.{total}
 use Rattle.answer.specs.declared.Answer.{Answer}
-use Rattle.answer.specs.Numbers.{COUNT, head}
+use Rattle.answer.specs.Numbers.{COUNT, HEAD}
 use Rattle.answer.specs.Turns.{look}
 use Rattle.closeness.specs.Closeness.{level}
 use Rattle.division.specs.Limits.{mostWeights, sizeRefusal}
@@ -51,5 +51,5 @@ meaning No = record { says = no; number = 0 }
 meaning (Refused number) = record { says = neither; number = number }
 
 -- "The answer is number, table, row": that of each case; "table and row are 0"
-abbrev pub answerOf : Verdict → Answer
-answerOf said = record { number = meaning said .number; table = head; row = 0 }
+abbrev pub verdictAnswer : Verdict → Answer
+verdictAnswer said = record { number = meaning said .number; table = HEAD; row = 0 }

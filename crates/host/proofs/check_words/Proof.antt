@@ -1,16 +1,15 @@
 -- `host::check_words` meets its contract: the numbers loaded are the weights' and the amounts'.
 -- Assumes nothing.
-use mathlib.Core.Path.{_≡_, refl, sym, ap, ap₂, _∙_}
+use mathlib.Core.Path.{_≡_, sym, ap, ap₂, _∙_}
 use Prim.Native.Nat.{_/_, _+_, _*_}
 use native.Mathlib.Omega.{arith}
 use lib.ListN.{length, take}
+use lib.Seq.{take-at}
 use borrow.Author.Needs.{needs}
 use Rattle.verdict.specs.Check.{verdict}
 use Rattle.verdict.specs.declared.Verdict.the-variants.{Yes, No, Refused}
-use Rattle.host.specs.Words.{numbers}
-use Rattle.lists.specs.Entries.{put}
-use Rattle.host.specs.Stores.{numberAt}
-use Rattle.host.proofs.Digits.{loaded, length-numbers}
+use Rattle.words.specs.Words.{numbers}
+use Rattle.words.proofs.Digits.{length-numbers}
 use Rattle.host.proofs.Calls.{said}
 use Rattle.host.proofs.check_words.Statement.{statement}
 use Rattle.host.proofs.check_words.Tie as tie
@@ -21,17 +20,15 @@ loaded-weights : (c : tie.After-load)
 loaded-weights c =
     let start = c .before .before .before .before .before .before in
     ap (take (length (start .args .weights .now) / 8)) (c .load .ensures)
-    ∙ loaded (start .args .weights .now) (start .args .numbers .now) (length (start .args .weights .now) / 8) refl
-    (omega (arith, start .pre .1 .0, start .pre .1 .1))
+    ∙ take-at (numbers (start .args .weights .now)) _ (length (start .args .weights .now) / 8) (length-numbers (start .args .weights .now))
 
 loaded-amounts : (c : tie.After-load2)
     → take (length (c .before .before .before .before .before .before .before .before .before .before .args .weights .now) / 8) (c .load2 .last .1 .0) ≡ numbers (c .before .before .before .before .before .before .before .before .before .before .args .amounts .now)
 loaded-amounts c =
     let start = c .before .before .before .before .before .before .before .before .before .before in
-    let alike : length (start .args .weights .now) / 8 ≡ length (start .args .amounts .now) / 8 = ap (λ n. n / 8) (sym (start .pre .0 .1)) in
-    ap (take (length (start .args .weights .now) / 8)) (c .load2 .ensures ∙ ap (λ n. put n (numberAt (start .args .amounts .now)) (start .args .handed .now)) (sym alike))
-    ∙ loaded (start .args .amounts .now) (start .args .handed .now) (length (start .args .weights .now) / 8) alike
-    (omega (arith, start .pre .1 .0, start .pre .1 .2))
+    ap (take (length (start .args .weights .now) / 8)) (c .load2 .ensures)
+    ∙ take-at (numbers (start .args .amounts .now)) _ (length (start .args .weights .now) / 8)
+    (length-numbers (start .args .amounts .now) ∙ ap (λ n. n / 8) (start .pre .0 .1))
 
 checked : (c : tie.After-check)
     → c .check .result ≡ verdict (c .before .before .before .before .before .before .before .before .before .before .before .before .before .before .before .args .pot) (numbers (c .before .before .before .before .before .before .before .before .before .before .before .before .before .before .before .args .weights .now)) (numbers (c .before .before .before .before .before .before .before .before .before .before .before .before .before .before .before .args .amounts .now))

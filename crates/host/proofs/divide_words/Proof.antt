@@ -1,19 +1,17 @@
 -- `host::divide_words` meets its contract: the numbers loaded are the weights', and what is stored is the bytes of the shares.
 -- Assumes nothing.
-use mathlib.Core.Path.{_≡_, refl, sym, ap, _∙_, subst}
+use mathlib.Core.Path.{_≡_, sym, ap, _∙_, subst}
 use mathlib.Core.List.{_++_}
 use Prim.Native.Nat.{_*_, _/_}
 use native.Mathlib.Nat.{le-of-eq, le-trans}
 use native.Mathlib.Omega.{arith}
 use lib.ListN.{length, take, drop}
-use lib.Seq.{length-take-le}
+use lib.Seq.{length-take-le, take-at}
 use borrow.Author.Needs.{needs}
-use Rattle.lists.specs.Entries.{put}
 use Rattle.division.specs.Shares.{shares, Divided}
 use Rattle.division.proofs.Laws.{length-shares}
-use Rattle.host.specs.Words.{numbers}
-use Rattle.host.specs.Stores.{byteAt}
-use Rattle.host.proofs.Digits.{loaded, length-numbers}
+use Rattle.words.specs.Words.{numbers, bytesOf}
+use Rattle.words.proofs.Digits.{length-numbers}
 use Rattle.host.proofs.Calls.{refused, number-is, fits, shares-first, divided}
 use Rattle.host.proofs.divide_words.Statement.{statement}
 use Rattle.host.proofs.divide_words.Tie as tie
@@ -25,8 +23,7 @@ loaded-at : (c : tie.After-load)
 loaded-at c =
     let start = c .before .before .before .before .before .before in
     ap (take (length (start .args .weights .now) / 8)) (c .load .ensures)
-    ∙ loaded (start .args .weights .now) (start .args .numbers .now) (length (start .args .weights .now) / 8) refl
-    (omega (arith, start .pre .1 .0, start .pre .1 .1))
+    ∙ take-at (numbers (start .args .weights .now)) _ (length (start .args .weights .now) / 8) (length-numbers (start .args .weights .now))
 
 made : (c : tie.After-divide)
     → Divided (c .before .before .before .before .before .before .before .before .before .before .before .before .args .pot)
@@ -134,7 +131,7 @@ returns-2 c =
     divided _ _ _ (start .pre .0) (start .pre .1 .0) _ (d .before .before .before .at-most .ensures) _ _ (room-long d) _ (made d) (c .before .before .before .before .before .if1 .left)
     (c .before .before .store .last .1 .0)
     (c .before .before .store .ensures
-    ∙ ap (λ l. put (8 * length l) (byteAt l) (start .args .amounts .now)) (first-shares d (c .before .before .before .before .before .if1 .left)))
+    ∙ ap (λ l. bytesOf l ++ drop (8 * length l) (start .args .amounts .now)) (first-shares d (c .before .before .before .before .before .if1 .left)))
 
 pub divide-words-spec : {M : Type 1} → statement M
 divide-words-spec =

@@ -2,8 +2,9 @@
 -- Assumes nothing.
 use mathlib.Core.Path.{refl, sym, _∙_}
 use borrow.Author.Needs.{needs}
-use Rattle.host.specs.Stores.{WholeWords}
-use Rattle.host.proofs.Calls.{check-uneven, check-many, check-unlike, whole-words}
+use Rattle.words.specs.Words.{WholeWords}
+use Rattle.words.proofs.Whole.{whole-words}
+use Rattle.host.proofs.Calls.{check-uneven, check-many, check-unlike}
 use Rattle.host.proofs.noketualo_check.Statement.{statement}
 use Rattle.host.proofs.noketualo_check.Tie as tie
 

@@ -3,8 +3,9 @@
 use mathlib.Core.Path.{refl, sym, _∙_}
 use native.Mathlib.Omega.{arith}
 use borrow.Author.Needs.{needs}
-use Rattle.host.specs.Stores.{WholeWords}
-use Rattle.host.proofs.Calls.{refused, divide-uneven, divide-many, whole-words}
+use Rattle.words.specs.Words.{WholeWords}
+use Rattle.words.proofs.Whole.{whole-words}
+use Rattle.host.proofs.Calls.{refused, divide-uneven, divide-many}
 use Rattle.host.proofs.noketualo_divide.Statement.{statement}
 use Rattle.host.proofs.noketualo_divide.Tie as tie
 

@@ -10,7 +10,7 @@ use borrow.Author.Needs.{needs}
 use Rattle.lists.specs.Sums.{sumTo, at}
 use Rattle.groups.specs.Groups.{weightsIn}
 use Rattle.groups.proofs.Summing.{summed-room}
-use Rattle.service.specs.Service.{Service, serviceOf, uses, zoneUse, nonzoneUse}
+use Rattle.service.specs.Service.{Service, serviceOf, bothUses, zoneUse, nonzoneUse}
 use Rattle.service.specs.Steps.{Charged}
 use Rattle.service.proofs.Charging.{
   Zone,
@@ -31,7 +31,7 @@ Inv-loop pots numbers zoneparts nonzoneparts zones column₀ place zone nonzone 
     (z ≤ length numbers)
     × (length column ≡ length column₀)
     × Charged (serviceOf pots numbers zoneparts nonzoneparts zones) z sides column
-    × ((zone ∷ nonzone ∷ []) ≡ uses (serviceOf pots numbers zoneparts nonzoneparts zones))
+    × ((zone ∷ nonzone ∷ []) ≡ bothUses (serviceOf pots numbers zoneparts nonzoneparts zones))
 
 abbrev μ-loop : tie.MeasureT-loop
 μ-loop pots numbers zoneparts nonzoneparts zones column₀ place zone nonzone sides₀ z₀ column sides z = length numbers - z

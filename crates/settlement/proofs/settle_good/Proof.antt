@@ -1,12 +1,26 @@
 -- `settlement::settle_good` meets its contract: the outputs are written where every division is fine, and not before.
 -- Assumes nothing.
+use mathlib.Core.Path.{refl}
+use mathlib.Core.List.{map}
+use denote.Ref.{now}
 use borrow.Author.Needs.{needs}
-use Rattle.tables.specs.declared.Table.the-variants.{Owners}
-use Rattle.tables.specs.Shape.{limit}
-use Rattle.pool.specs.Input.{Input, inputOf}
-use Rattle.settlement.proofs.Writing.{new-column, settled-refused, settled-accepted}
+use Rattle.tables.specs.Shape.{tablesFrom}
+use Rattle.columns.proofs.Blocks.{new-zeros}
+use Rattle.pool.specs.Input.{Input}
+use Rattle.settlement.specs.Steps.{monthWith}
+use Rattle.settlement.proofs.Writing.{settled-refused, settled-accepted}
 use Rattle.settlement.proofs.settle_good.Statement.{statement}
 use Rattle.settlement.proofs.settle_good.Tie as tie
+
+-- the place behind the divisions, and the start
+abbrev dividedAt : tie.After-lay → tie.After-divide-month
+dividedAt c = c .before .before .before .before .before .before .before
+
+abbrev startOf : tie.After-divide-month → tie.Start
+startOf c = c .before .before .before .before .before
+
+abbrev monthAt : tie.Start → Input
+monthAt c = monthWith (c .args .month) (c .args .nonzone) (tablesFrom (map now (c .args .tables)))
 
 slice-aggregate-divide-month : tie.Need-slice-aggregate-divide-month
 slice-aggregate-divide-month c = search needs
@@ -14,83 +28,31 @@ slice-aggregate-divide-month c = search needs
 slice-aggregate-divide-month-2 : tie.Need-slice-aggregate-divide-month-2
 slice-aggregate-divide-month-2 c = search needs
 
-slice-aggregate-divide-month-3 : tie.Need-slice-aggregate-divide-month-3
-slice-aggregate-divide-month-3 c = search needs
-
-slice-aggregate-divide-month-4 : tie.Need-slice-aggregate-divide-month-4
-slice-aggregate-divide-month-4 c = search needs
-
-slice-aggregate-divide-month-5 : tie.Need-slice-aggregate-divide-month-5
-slice-aggregate-divide-month-5 c = search needs
-
-slice-aggregate-divide-month-6 : tie.Need-slice-aggregate-divide-month-6
-slice-aggregate-divide-month-6 c = search needs
-
-slice-aggregate-divide-month-7 : tie.Need-slice-aggregate-divide-month-7
-slice-aggregate-divide-month-7 c = search needs
-
-slice-aggregate-divide-month-8 : tie.Need-slice-aggregate-divide-month-8
-slice-aggregate-divide-month-8 c = search needs
-
 divide-month-requires : tie.Need-divide-month-requires
-divide-month-requires c κs =
-    let start = c .before .before .before .before .before .before .before .before .before .before .before .before .before .before .before .before in
-    let a = start .args in
-    let pre = start .pre in
-    let m : Input = inputOf (a .month .number) (a .month .days) (a .nonzone) (a .zones .now) (a .owners .now) (a .units .now) (a .accounts .now) (a .loads .now) (a .reservations .now) in (
-      pre .0,
-      (
-        record { network-room = pre .0 .fillable .few; blackstart-room = pre .0 .fillable .few; reactive-room = pre .0 .fillable .few; uses-room = pre .0 .fillable .few },
-        record { network-room = pre .0 .few-owners; nonzone-room = pre .0 .few-owners; blackstart-room = pre .0 .few-owners; reactive-room = pre .0 .few-owners; zeros = new-column (limit Owners) },
-      ),
-    )
+divide-month-requires c κs = (c .before .before .before .before .pre .0, record { for-accounts = refl; for-owners = refl; new = new-zeros 256 })
 
 returns : tie.Need-returns
 returns c =
-    let start = c .before .before .before .before .before .before .before .before .before .before .before .before .before .before .before .before .before .before .before .before .before .before .before .before .before .before in
-    let a = start .args in
-    let pre = start .pre in
-    let m : Input = inputOf (a .month .number) (a .month .days) (a .nonzone) (a .zones .now) (a .owners .now) (a .units .now) (a .accounts .now) (a .loads .now) (a .reservations .now) in
-    settled-refused m (c .before .before .before .before .before .before .before .before .before .divide-month .ensures) (c .if1 .taken)
+    let divided = c .before .before .before in
+    settled-refused (monthAt (startOf divided)) (divided .divide-month .ensures) (c .if1 .taken)
 
-slice-aggregate-write-charges : tie.Need-slice-aggregate-write-charges
-slice-aggregate-write-charges c = search needs
+slice-aggregate-lay : tie.Need-slice-aggregate-lay
+slice-aggregate-lay c = search needs
 
-slice-aggregate-write-charges-2 : tie.Need-slice-aggregate-write-charges-2
-slice-aggregate-write-charges-2 c = search needs
+rows-of-requires : tie.Need-rows-of-requires
+rows-of-requires c κs = search needs
 
-slice-aggregate-write-charges-3 : tie.Need-slice-aggregate-write-charges-3
-slice-aggregate-write-charges-3 c = search needs
+lay-requires : tie.Need-lay-requires
+lay-requires c κs = search needs
 
-write-charges-requires : tie.Need-write-charges-requires
-write-charges-requires c κs =
-    let start = c .before .before .before .before .before .before .before .before .before .before .before .before .before .before .before .before .before .before .before .before .before .before .before .before .before .before .before .before .before .before in
-    let a = start .args in
-    let pre = start .pre in
-    let m : Input = inputOf (a .month .number) (a .month .days) (a .nonzone) (a .zones .now) (a .owners .now) (a .units .now) (a .accounts .now) (a .loads .now) (a .reservations .now) in
-    let hold = c .before .before .before .before .before .before .before .before .before .before .before .before .before .divide-month .ensures .columns (c .before .before .before .before .if1 .left) in
-    ((hold .network-charges .long, hold .blackstart-charges .long, hold .reactive-charges .long), pre .1 .0)
+slice-aggregate-lay-2 : tie.Need-slice-aggregate-lay-2
+slice-aggregate-lay-2 c = search needs
 
-slice-aggregate-write-credits : tie.Need-slice-aggregate-write-credits
-slice-aggregate-write-credits c = search needs
+rows-of-requires-2 : tie.Need-rows-of-requires-2
+rows-of-requires-2 c κs = search needs
 
-slice-aggregate-write-credits-2 : tie.Need-slice-aggregate-write-credits-2
-slice-aggregate-write-credits-2 c = search needs
-
-slice-aggregate-write-credits-3 : tie.Need-slice-aggregate-write-credits-3
-slice-aggregate-write-credits-3 c = search needs
-
-slice-aggregate-write-credits-4 : tie.Need-slice-aggregate-write-credits-4
-slice-aggregate-write-credits-4 c = search needs
-
-write-credits-requires : tie.Need-write-credits-requires
-write-credits-requires c κs =
-    let start = c .before .before .before .before .before .before .before .before .before .before .before .before .before .before .before .before .before .before .before .before .before .before .before .before .before .before .before .before .before .before .before .before .before .before .before .before .before .before in
-    let a = start .args in
-    let pre = start .pre in
-    let m : Input = inputOf (a .month .number) (a .month .days) (a .nonzone) (a .zones .now) (a .owners .now) (a .units .now) (a .accounts .now) (a .loads .now) (a .reservations .now) in
-    let hold = c .before .before .before .before .before .before .before .before .before .before .before .before .before .before .before .before .before .before .before .before .before .divide-month .ensures .columns (c .before .before .before .before .before .before .before .before .before .before .before .before .if1 .left) in
-    ((hold .network-credits .long, hold .nonzone-credits .long, hold .blackstart-credits .long, hold .reactive-credits .long), pre .1 .1)
+lay-requires-2 : tie.Need-lay-requires-2
+lay-requires-2 c κs = search needs
 
 same-length : tie.Need-same-length
 same-length c = search needs
@@ -100,11 +62,12 @@ same-length-2 c = search needs
 
 returns-2 : tie.Need-returns-2
 returns-2 c =
-    let start = c .before .before .before .before .before .before .before .before .before .before .before .before .before .before .before .before .before .before .before .before .before .before .before .before .before .before .before .before .before .before .before .before .before .before .before .before .before .before .before .before .before in
-    let a = start .args in
-    let pre = start .pre in
-    let m : Input = inputOf (a .month .number) (a .month .days) (a .nonzone) (a .zones .now) (a .owners .now) (a .units .now) (a .accounts .now) (a .loads .now) (a .reservations .now) in
-    settled-accepted m (c .before .before .before .before .before .before .before .before .before .before .before .before .before .before .before .before .before .before .before .before .before .before .before .before .divide-month .ensures) (c .before .before .before .before .before .before .before .before .before .before .before .before .before .before .before .if1 .left) (c .before .before .before .before .before .before .before .before .before .before .write-charges .ensures) (c .before .before .write-credits .ensures)
+    let last = c .before .before in
+    let rows = last .before .before in
+    let first = rows .before .before .before .before in
+    let counted = first .before .before in
+    let divided = dividedAt first in
+    settled-accepted (monthAt (startOf divided)) (divided .divide-month .ensures) (counted .before .before .if1 .left) (counted .rows-of .ensures) (rows .rows-of2 .ensures) (first .lay .ensures) (last .lay2 .ensures)
 
 pub settle-good-spec : {M : Type 1} → statement M
 settle-good-spec =
@@ -112,23 +75,14 @@ settle-good-spec =
     (tie.spec
     slice-aggregate-divide-month
     slice-aggregate-divide-month-2
-    slice-aggregate-divide-month-3
-    slice-aggregate-divide-month-4
-    slice-aggregate-divide-month-5
-    slice-aggregate-divide-month-6
-    slice-aggregate-divide-month-7
-    slice-aggregate-divide-month-8
     divide-month-requires
     returns
-    slice-aggregate-write-charges
-    slice-aggregate-write-charges-2
-    slice-aggregate-write-charges-3
-    write-charges-requires
-    slice-aggregate-write-credits
-    slice-aggregate-write-credits-2
-    slice-aggregate-write-credits-3
-    slice-aggregate-write-credits-4
-    write-credits-requires
+    slice-aggregate-lay
+    rows-of-requires
+    lay-requires
+    slice-aggregate-lay-2
+    rows-of-requires-2
+    lay-requires-2
     same-length
     same-length-2
     returns-2)

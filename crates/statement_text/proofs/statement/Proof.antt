@@ -1,12 +1,41 @@
--- `statement_text::statement` meets its contract: a text that is too long is refused, any other has its statement.
+-- `statement_text::statement` meets its contract: a text that is too long is refused, as is one that can't be read; any other has the
+-- statement of its month.
 -- Assumes nothing.
 use mathlib.Core.Path.{ap, sym, _∙_, subst}
+use Prim.Native.Nat.{_*_, _≤_}
+use native.Mathlib.Omega.{arith}
+use lib.ListN.{length}
+use lib.Seq.{length-take-le}
 use borrow.Author.Needs.{needs}
-use Rattle.statement_text.specs.Statement.{refuseLine}
+use Rattle.tables.specs.declared.Table.{Table}
+use Rattle.tables.specs.declared.Table.the-variants.{Zones, Owners, Units, Accounts, Loads, Reservations}
+use Rattle.tables.specs.Shape.{width, limit, Tables, tablesOf, wordsOf}
+use Rattle.fileread.specs.declared.Reading.{Reading}
+use Rattle.fileread.specs.Calls.{countIn}
+use Rattle.statement_lines.specs.Lines.{refuseLine}
 use Rattle.statement_text.specs.Calls.{Shows}
-use Rattle.statement_text.proofs.Stating.{long-text, short-text, full-lent}
+use Rattle.statement_text.proofs.Held.{lent, lent-full, text-refused, rows-few, rows-there, text-month}
+use Rattle.statement_text.proofs.Stating.{long-text, short-text}
 use Rattle.statement_text.proofs.statement.Statement.{statement}
 use Rattle.statement_text.proofs.statement.Tie as tie
+
+-- what was read, and the tables then
+abbrev held : tie.After-read → Reading
+held c = c .read .result
+
+abbrev after : tie.After-read → Tables
+after c =
+    tablesOf (c .read .last .1 .0) (c .read .last .1 .1 .0) (c .read .last .1 .1 .1 .0) (c .read .last .1 .1 .1 .1 .0)
+    (c .read .last .1 .1 .1 .1 .1 .0) (c .read .last .1 .1 .1 .1 .1 .1 .0)
+
+abbrev reached : tie.Else2 → tie.After-read
+reached c = c .before .before .before .before .before .before .before .before .before
+
+few : (c : tie.Else2) (table : Table) → countIn (held (reached c)) table ≤ limit table
+few c table = rows-few _ lent lent-full (held (reached c)) (after (reached c)) (reached c .read .ensures) (c .if2 .left) table
+
+there : (c : tie.Else2) (table : Table) → countIn (held (reached c)) table * width table ≤ length (wordsOf (after (reached c)) table)
+there c table = rows-there _ lent lent-full (held (reached c)) (after (reached c)) (reached c .read .ensures) (c .if2 .left) table
 
 refused-requires : tie.Need-refused-requires
 refused-requires c κs = search needs
@@ -19,47 +48,130 @@ same-length c = search needs
 
 returns : tie.Need-returns
 returns c =
-    let start = c .before .before .before .before .before .before .before .before in
     let shown = c .before .before .show-refusal in
-    subst (λ l. Shows l (start .args .out .now) (shown .last .1 .0) (shown .result))
-    (ap refuseLine (c .before .before .before .before .refused .ensures) ∙ sym (long-text (start .args .text .now) (c .before .before .before .before .before .if1 .taken))) (shown .ensures)
+    subst (λ l. Shows l (c .before .before .before .before .before .before .before .before .args .out .now) (shown .last .1 .0) (shown .result))
+    (ap refuseLine (c .before .before .before .before .refused .ensures) ∙ sym (long-text (c .before .before .before .before .before .before .before .before .args .text .now) (c .before .before .before .before .before .if1 .taken))) (shown .ensures)
 
-slice-aggregate-state : tie.Need-slice-aggregate-state
-slice-aggregate-state c = search needs
+slice-aggregate-read : tie.Need-slice-aggregate-read
+slice-aggregate-read c = search needs
 
-slice-aggregate-state-2 : tie.Need-slice-aggregate-state-2
-slice-aggregate-state-2 c = search needs
+slice-aggregate-read-2 : tie.Need-slice-aggregate-read-2
+slice-aggregate-read-2 c = search needs
 
-slice-aggregate-state-3 : tie.Need-slice-aggregate-state-3
-slice-aggregate-state-3 c = search needs
+slice-aggregate-read-3 : tie.Need-slice-aggregate-read-3
+slice-aggregate-read-3 c = search needs
 
-slice-aggregate-state-4 : tie.Need-slice-aggregate-state-4
-slice-aggregate-state-4 c = search needs
+slice-aggregate-read-4 : tie.Need-slice-aggregate-read-4
+slice-aggregate-read-4 c = search needs
 
-slice-aggregate-state-5 : tie.Need-slice-aggregate-state-5
-slice-aggregate-state-5 c = search needs
+slice-aggregate-read-5 : tie.Need-slice-aggregate-read-5
+slice-aggregate-read-5 c = search needs
 
-slice-aggregate-state-6 : tie.Need-slice-aggregate-state-6
-slice-aggregate-state-6 c = search needs
+slice-aggregate-read-6 : tie.Need-slice-aggregate-read-6
+slice-aggregate-read-6 c = search needs
 
-slice-aggregate-state-7 : tie.Need-slice-aggregate-state-7
-slice-aggregate-state-7 c = search needs
+read-requires : tie.Need-read-requires
+read-requires c κs = search needs
 
-slice-aggregate-state-8 : tie.Need-slice-aggregate-state-8
-slice-aggregate-state-8 c = search needs
-
-state-requires : tie.Need-state-requires
-state-requires c κs = full-lent
+show-refusal-requires-2 : tie.Need-show-refusal-requires-2
+show-refusal-requires-2 c κs = search needs
 
 same-length-2 : tie.Need-same-length-2
 same-length-2 c = search needs
 
 returns-2 : tie.Need-returns-2
 returns-2 c =
-    let start = c .before .before .before .before .before .before .before .before .before .before .before .before .before .before .before .before .before .before .before .before .before .before .before in
-    let shown = c .before .before .before .before .before .before .before .before .before .before .state in
-    subst (λ l. Shows l (start .args .out .now) (shown .last .1 .1 .1 .1 .1 .1 .1 .1 .1 .0) (shown .result))
-    (sym (short-text (start .args .text .now) (c .before .before .before .before .before .before .before .before .before .before .before .before .before .before .before .before .before .before .before .before .if1 .left))) (shown .ensures)
+    let shown = c .before .before .show-refusal2 in
+    let read = c .before .before .before .before .before .before .before .before .before .before .before .before .before in
+    subst (λ l. Shows l (c .before .before .before .before .before .before .before .before .before .before .before .before .before .before .before .before .before .before .before .before .before .before .before .args .out .now) (shown .last .1 .0) (shown .result))
+    (text-refused (c .before .before .before .before .before .before .before .before .before .before .before .before .before .before .before .before .before .before .before .before .before .before .before .args .text .now) lent lent-full (held read) (after read) (read .read .ensures) (c .before .before .before .before .if2 .taken)
+    ∙ sym (short-text (c .before .before .before .before .before .before .before .before .before .before .before .before .before .before .before .before .before .before .before .before .before .before .before .args .text .now) (c .before .before .before .before .before .before .before .before .before .before .before .before .before .before .before .before .before .before .before .before .if1 .left))) (shown .ensures)
+
+array-read-zonewords : tie.Need-array-read-zonewords
+array-read-zonewords c = search needs
+
+mul-zonewords : tie.Need-mul-zonewords
+mul-zonewords c = omega (arith, few (c .before .before) Zones)
+
+array-read-ownerwords : tie.Need-array-read-ownerwords
+array-read-ownerwords c = search needs
+
+mul-ownerwords : tie.Need-mul-ownerwords
+mul-ownerwords c = omega (arith, few (c .before .before) Owners)
+
+array-read-unitwords : tie.Need-array-read-unitwords
+array-read-unitwords c = search needs
+
+mul-unitwords : tie.Need-mul-unitwords
+mul-unitwords c = omega (arith, few (c .before .before) Units)
+
+array-read-accountwords : tie.Need-array-read-accountwords
+array-read-accountwords c = search needs
+
+mul-accountwords : tie.Need-mul-accountwords
+mul-accountwords c = omega (arith, few (c .before .before) Accounts)
+
+array-read-loadwords : tie.Need-array-read-loadwords
+array-read-loadwords c = search needs
+
+mul-loadwords : tie.Need-mul-loadwords
+mul-loadwords c = omega (arith, few (c .before .before) Loads)
+
+array-read-reservationwords : tie.Need-array-read-reservationwords
+array-read-reservationwords c = search needs
+
+mul-reservationwords : tie.Need-mul-reservationwords
+mul-reservationwords c = omega (arith, few (c .before .before) Reservations)
+
+array-share-prefix-zones : tie.Need-array-share-prefix-zones
+array-share-prefix-zones c = there (c .before .before) Zones
+
+slice-aggregate-t51 : tie.Need-slice-aggregate-t51
+slice-aggregate-t51 c = sym (length-take-le _ _ (there (c .before .before .before) Zones))
+
+array-share-prefix-owners : tie.Need-array-share-prefix-owners
+array-share-prefix-owners c = there (c .before .before .before) Owners
+
+slice-aggregate-t53 : tie.Need-slice-aggregate-t53
+slice-aggregate-t53 c = sym (length-take-le _ _ (there (c .before .before .before .before) Owners))
+
+array-share-prefix-units : tie.Need-array-share-prefix-units
+array-share-prefix-units c = there (c .before .before .before .before) Units
+
+slice-aggregate-t55 : tie.Need-slice-aggregate-t55
+slice-aggregate-t55 c = sym (length-take-le _ _ (there (c .before .before .before .before .before) Units))
+
+array-share-prefix-accounts : tie.Need-array-share-prefix-accounts
+array-share-prefix-accounts c = there (c .before .before .before .before .before) Accounts
+
+slice-aggregate-t57 : tie.Need-slice-aggregate-t57
+slice-aggregate-t57 c = sym (length-take-le _ _ (there (c .before .before .before .before .before .before) Accounts))
+
+array-share-prefix-loads : tie.Need-array-share-prefix-loads
+array-share-prefix-loads c = there (c .before .before .before .before .before .before) Loads
+
+slice-aggregate-t59 : tie.Need-slice-aggregate-t59
+slice-aggregate-t59 c = sym (length-take-le _ _ (there (c .before .before .before .before .before .before .before) Loads))
+
+array-share-prefix-reservations : tie.Need-array-share-prefix-reservations
+array-share-prefix-reservations c = there (c .before .before .before .before .before .before .before) Reservations
+
+slice-aggregate-t61 : tie.Need-slice-aggregate-t61
+slice-aggregate-t61 c = sym (length-take-le _ _ (there (c .before .before .before .before .before .before .before .before) Reservations))
+
+state-month-requires : tie.Need-state-month-requires
+state-month-requires c κs = search needs
+
+same-length-3 : tie.Need-same-length-3
+same-length-3 c = search needs
+
+returns-3 : tie.Need-returns-3
+returns-3 c =
+    let shown = c .before .before .state-month in
+    let read = c .before .before .before .before .before .before .before .before .before .before .before .before .before .before .before .before .before .before .before .before .before in
+    subst (λ l. Shows l (c .before .before .before .before .before .before .before .before .before .before .before .before .before .before .before .before .before .before .before .before .before .before .before .before .before .before .before .before .before .before .before .args .out .now) (shown .last .1 .1 .0) (shown .result))
+    (text-month (c .before .before .before .before .before .before .before .before .before .before .before .before .before .before .before .before .before .before .before .before .before .before .before .before .before .before .before .before .before .before .before .args .text .now) lent lent-full (held read) (after read) (read .read .ensures) (c .before .before .before .before .before .before .before .before .before .before .before .before .if2 .left)
+    ∙ sym (short-text (c .before .before .before .before .before .before .before .before .before .before .before .before .before .before .before .before .before .before .before .before .before .before .before .before .before .before .before .before .before .before .before .args .text .now) (c .before .before .before .before .before .before .before .before .before .before .before .before .before .before .before .before .before .before .before .before .before .before .before .before .before .before .before .before .if1 .left))) (shown .ensures)
 
 pub statement-spec : {M : Type 1} → statement M
 statement-spec =
@@ -69,14 +181,40 @@ statement-spec =
     show-refusal-requires
     same-length
     returns
-    slice-aggregate-state
-    slice-aggregate-state-2
-    slice-aggregate-state-3
-    slice-aggregate-state-4
-    slice-aggregate-state-5
-    slice-aggregate-state-6
-    slice-aggregate-state-7
-    slice-aggregate-state-8
-    state-requires
+    slice-aggregate-read
+    slice-aggregate-read-2
+    slice-aggregate-read-3
+    slice-aggregate-read-4
+    slice-aggregate-read-5
+    slice-aggregate-read-6
+    read-requires
+    show-refusal-requires-2
     same-length-2
-    returns-2)
+    returns-2
+    array-read-zonewords
+    mul-zonewords
+    array-read-ownerwords
+    mul-ownerwords
+    array-read-unitwords
+    mul-unitwords
+    array-read-accountwords
+    mul-accountwords
+    array-read-loadwords
+    mul-loadwords
+    array-read-reservationwords
+    mul-reservationwords
+    array-share-prefix-zones
+    slice-aggregate-t51
+    array-share-prefix-owners
+    slice-aggregate-t53
+    array-share-prefix-units
+    slice-aggregate-t55
+    array-share-prefix-accounts
+    slice-aggregate-t57
+    array-share-prefix-loads
+    slice-aggregate-t59
+    array-share-prefix-reservations
+    slice-aggregate-t61
+    state-month-requires
+    same-length-3
+    returns-3)

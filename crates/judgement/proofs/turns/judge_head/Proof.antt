@@ -1,6 +1,6 @@
 -- `judgement::turns::judge_head` meets its contract: its looks are the definition's.
 -- Assumes nothing.
-use Rattle.judgement.specs.Judgement.{headJudged}
+use Rattle.judgement.specs.Judgement.{headLooked}
 use borrow.Author.Needs.{needs}
 use Rattle.judgement.proofs.turns.judge_head.Statement.{statement}
 use Rattle.judgement.proofs.turns.judge_head.Tie as tie
@@ -11,9 +11,6 @@ outside-requires c κs = search needs
 look-requires : tie.Need-look-requires
 look-requires c κs = search needs
 
-no-month-requires : tie.Need-no-month-requires
-no-month-requires c κs = search needs
-
 look-requires-2 : tie.Need-look-requires-2
 look-requires-2 c κs = search needs
 
@@ -21,14 +18,13 @@ look-at-requires : tie.Need-look-at-requires
 look-at-requires c κs = search needs
 
 returns : tie.Need-returns
-unfolding headJudged
+unfolding headLooked
 returns c =
     simp (
       c .look-at .ensures,
       c .before .look2 .ensures,
-      c .before .before .no-month .ensures,
-      c .before .before .before .look .ensures,
-      c .before .before .before .before .outside .ensures,
+      c .before .before .look .ensures,
+      c .before .before .before .outside .ensures,
     )
 
 pub judge-head-spec : {M : Type 1} → statement M
@@ -37,7 +33,6 @@ judge-head-spec =
     (tie.spec
     outside-requires
     look-requires
-    no-month-requires
     look-requires-2
     look-at-requires
     returns)

@@ -1,17 +1,24 @@
 -- `judgement::turns::judge_room` meets its contract: places for fewer rows than there are is fewer places than figures.
 -- Assumes nothing.
-use Prim.Native.Nat.{_/_}
+use mathlib.Core.List.{map}
 use native.Mathlib.Omega.{arith}
+use denote.Ref.{now}
 use Rattle.tables.specs.declared.Table.the-variants.{Owners, Accounts}
-use Rattle.tables.specs.Shape.{width, chargeWidth, creditWidth}
+use Rattle.tables.specs.Shape.{chargeWidth, creditWidth, rows, Tables, tablesFrom}
 use Rattle.tables.specs.Counts.{roomFor}
 use Rattle.judgement.proofs.Turning.{places}
 use borrow.Author.Needs.{needs}
 use Rattle.judgement.proofs.turns.judge_room.Statement.{statement}
 use Rattle.judgement.proofs.turns.judge_room.Tie as tie
 
-abbrev entry : tie.After-look-at2 → tie.Start
-entry c = c .before .before .before .before .before .before
+abbrev held : tie.Start → Tables
+held c = tablesFrom (map now (c .args .tables))
+
+words-of-requires : tie.Need-words-of-requires
+words-of-requires c κs = search needs
+
+words-of-requires-2 : tie.Need-words-of-requires-2
+words-of-requires-2 c κs = search needs
 
 rows-in-requires : tie.Need-rows-in-requires
 rows-in-requires c κs = search needs
@@ -34,6 +41,7 @@ look-at-requires-2 c κs = search needs
 returns : tie.Need-returns
 unfolding roomFor
 returns c =
+    let start = c .before .before .before .before .before .before .before .before in
     simp (
       c .look-at2 .ensures,
       c .before .look-at .ensures,
@@ -41,14 +49,18 @@ returns c =
       c .before .before .before .look .ensures,
       c .before .before .before .before .rows-in2 .ensures,
       c .before .before .before .before .before .rows-in .ensures,
-      places (entry c .args .charges) chargeWidth (entry c .args .accounts / width Accounts) (omega arith),
-      places (entry c .args .credits) creditWidth (entry c .args .owners / width Owners) (omega arith),
+      c .before .before .before .before .before .before .words-of2 .ensures,
+      c .before .before .before .before .before .before .before .words-of .ensures,
+      places (start .args .charges) chargeWidth (rows Accounts (held start .accounts)) (omega arith),
+      places (start .args .credits) creditWidth (rows Owners (held start .owners)) (omega arith),
     )
 
 pub judge-room-spec : {M : Type 1} → statement M
 judge-room-spec =
     tie.close
     (tie.spec
+    words-of-requires
+    words-of-requires-2
     rows-in-requires
     rows-in-requires-2
     look-requires

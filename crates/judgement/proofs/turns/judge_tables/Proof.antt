@@ -1,47 +1,56 @@
--- `judgement::turns::judge_tables` meets its contract: six tables, each behind the ones before.
+-- `judgement::turns::judge_tables` meets its contract: each table is judged behind the ones before.
 -- Assumes nothing.
-use Rattle.judgement.specs.Judgement.{rowsJudged}
-use Rattle.judgement.proofs.Turning.{tables-behind}
+use mathlib.Core.List.{map}
+use Prim.Native.Nat.{_-_}
+use denote.Ref.{now}
 use borrow.Author.Needs.{needs}
+use Rattle.tables.specs.Shape.{tableCount, tablesFrom}
+use Rattle.judgement.proofs.Turning.{refusal-stays, TablesPassed, tables-start, tables-more, tables-end}
 use Rattle.judgement.proofs.turns.judge_tables.Statement.{statement}
 use Rattle.judgement.proofs.turns.judge_tables.Tie as tie
 
-judge-rows-requires : tie.Need-judge-rows-requires
+abbrev Inv-loop : tie.InvT-loop
+Inv-loop month tables refusal answer₀ k₀ answer k = TablesPassed (month .days) (tablesFrom (map now tables)) answer k
+
+abbrev μ-loop : tie.MeasureT-loop
+μ-loop month tables refusal answer₀ k₀ answer k = tableCount - k
+
+returns : tie.Need-returns Inv-loop μ-loop
+returns c = refusal-stays _ _ (c .if1 .taken)
+
+loop-holds : tie.Need-loop-holds Inv-loop μ-loop
+loop-holds c = tables-start _ _
+
+table-at-requires : tie.Need-table-at-requires Inv-loop μ-loop
+table-at-requires c κs = search needs
+
+judge-rows-requires : tie.Need-judge-rows-requires Inv-loop μ-loop
 judge-rows-requires c κs = search needs
 
-judge-rows-requires-2 : tie.Need-judge-rows-requires-2
-judge-rows-requires-2 c κs = search needs
+add-k : tie.Need-add-k Inv-loop μ-loop
+add-k c = search needs
 
-judge-rows-requires-3 : tie.Need-judge-rows-requires-3
-judge-rows-requires-3 c κs = search needs
+loop-less : tie.Need-loop-less Inv-loop μ-loop
+loop-less c = search needs
 
-judge-rows-requires-4 : tie.Need-judge-rows-requires-4
-judge-rows-requires-4 c κs = search needs
+loop-again : tie.Need-loop-again Inv-loop μ-loop
+loop-again c =
+    tables-more (c .before .before .before .loop .inv) _ _ (c .before .before .loop-test .taken) (c .before .table-at .ensures) (c .judge-rows .ensures)
 
-judge-rows-requires-5 : tie.Need-judge-rows-requires-5
-judge-rows-requires-5 c κs = search needs
-
-judge-rows-requires-6 : tie.Need-judge-rows-requires-6
-judge-rows-requires-6 c κs = search needs
-
-returns : tie.Need-returns
-unfolding rowsJudged
-returns c =
-    tables-behind _ _ _ _ _ _ _ _ (c .before .before .before .before .before .judge-rows .ensures)
-    (c .before .before .before .before .judge-rows2 .ensures)
-    (c .before .before .before .judge-rows3 .ensures)
-    (c .before .before .judge-rows4 .ensures)
-    (c .before .judge-rows5 .ensures)
-    (c .judge-rows6 .ensures)
+returns-2 : tie.Need-returns-2 Inv-loop μ-loop
+returns-2 c = tables-end (c .before .loop .inv) _ (c .before .before .if1 .left) (c .loop-test .left)
 
 pub judge-tables-spec : {M : Type 1} → statement M
 judge-tables-spec =
     tie.close
     (tie.spec
+    Inv-loop
+    μ-loop
+    returns
+    loop-holds
+    table-at-requires
     judge-rows-requires
-    judge-rows-requires-2
-    judge-rows-requires-3
-    judge-rows-requires-4
-    judge-rows-requires-5
-    judge-rows-requires-6
-    returns)
+    add-k
+    loop-less
+    loop-again
+    returns-2)

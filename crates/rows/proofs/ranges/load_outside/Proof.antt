@@ -5,6 +5,9 @@ use borrow.Author.Needs.{needs}
 use Rattle.rows.proofs.ranges.load_outside.Statement.{statement}
 use Rattle.rows.proofs.ranges.load_outside.Tie as tie
 
+day-count-requires : tie.Need-day-count-requires
+day-count-requires c κs = search needs
+
 entry-requires : tie.Need-entry-requires
 entry-requires c κs = search needs
 
@@ -33,12 +36,14 @@ returns c =
       c .before .before .before .entry3 .ensures,
       c .before .before .before .before .entry2 .ensures,
       c .before .before .before .before .before .entry .ensures,
+      c .before .before .before .before .before .before .day-count .ensures,
     )
 
 pub load-outside-spec : {M : Type 1} → statement M
 load-outside-spec =
     tie.close
     (tie.spec
+    day-count-requires
     entry-requires
     entry-requires-2
     entry-requires-3

@@ -11,8 +11,8 @@ use Rattle.rows.proofs.ranges.row_outside.Statement.{statement}
 use Rattle.rows.proofs.ranges.row_outside.Tie as tie
 
 -- in the arm of a table, the ranges are that table's
-same : (c : tie.After-shared-slice-known) (known : Table) → c .before .args .table ≡ known → rowOutside (c .before .args .days) known (now (c .before .args .words)) (c .before .args .i) ≡ rowOutside (c .before .args .days) (c .before .args .table) (now (c .before .args .words)) (c .before .args .i)
-same c known e = ap (λ k. rowOutside (c .before .args .days) k (now (c .before .args .words)) (c .before .args .i)) (sym e)
+same : (c : tie.After-shared-slice-known) (known : Table) → c .before .args .table ≡ known → rowOutside (c .before .args .month .days) known (now (c .before .args .words)) (c .before .args .i) ≡ rowOutside (c .before .args .month .days) (c .before .args .table) (now (c .before .args .words)) (c .before .args .i)
+same c known e = ap (λ k. rowOutside (c .before .args .month .days) k (now (c .before .args .words)) (c .before .args .i)) (sym e)
 
 enum-told : tie.Need-enum-told
 enum-told c = search needs

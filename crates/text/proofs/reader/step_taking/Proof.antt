@@ -46,7 +46,7 @@ use denote.Exit.{yes}
 use denote.Triple.Clauses.{ensured, lasts}
 use Rattle.text.specs.Numbers.{missing}
 use Rattle.text.specs.Lines.{line}
-use Rattle.text.specs.Places.{Taken}
+use Rattle.text.specs.Places.{FieldsTaken}
 use Rattle.text.specs.declared.reader.Reader.{Reader}
 use Rattle.text.proofs.reader.Reader as T
 use Rattle.text.proofs.reader.Reader.Laws as T′
@@ -117,7 +117,7 @@ module _ {M : Type 1} (𝓤 : URA M) (H : Heap 𝓤) (A : Atoms 𝓤) (W : Given
   There = (line (now x) w (dropped (d .at) (now (d .text))) ≢ missing) × (p + w ≤ length ys)
 
   abbrev Took : ℕ → List ℕ → Type 0
-  Took n zs = Taken (now (d .text)) (line (now x) w (dropped (d .at) (now (d .text)))) ys p n zs
+  Took n zs = FieldsTaken (now (d .text)) (line (now x) w (dropped (d .at) (now (d .text)))) ys p n zs
 
   abbrev Post : Val → SProp 𝓤
   Post = walkOf 𝓤 H A step-taking.ended stayed (step-taking.clauses 𝓤 H A mem run) .post ((κs, qs, tt, a, at), tt)

@@ -42,7 +42,7 @@ use denote.Exit.{yes}
 use denote.Triple.Clauses.{ensured, lasts}
 use Rattle.text.specs.Numbers.{missing}
 use Rattle.text.specs.Lines.{line}
-use Rattle.text.specs.Places.{Taken}
+use Rattle.text.specs.Places.{FieldsTaken}
 use Rattle.text.specs.Readers.{TookOne}
 use Rattle.text.specs.declared.reader.Reader.{Reader}
 use Rattle.text.proofs.Calls.{machine, α, B, at-fits, typed, ReaderAt, to-made, Made, said-made, goes-made}
@@ -164,7 +164,7 @@ module _ {M : Type 1} (𝓤 : URA M) (H : Heap 𝓤) (A : Atoms 𝓤) (W : Given
   abbrev Took : Reader → List ℕ → Type 0
   Took t zs = TookOne made (now x) w ys p t zs
 
-  exits : (n : ℕ) → n < 2 ^ 64 → (zs : List ℕ) → Taken (now s) (line (now x) w (dropped i (now s))) ys p n zs → length zs ≡ length ys
+  exits : (n : ℕ) → n < 2 ^ 64 → (zs : List ℕ) → FieldsTaken (now s) (line (now x) w (dropped i (now s))) ys p n zs → length zs ≡ length ys
       → ent 𝓤 (⋆ 𝓤 H A ((‵ (flft κ q) ⊛ ‵ (flft κ′ q′) ⊛ ‵ (flft κ″ q″) ⊛ ‵ ftrue) ∷ ‵ (finally u64 γ zs) ∷ Kept-step ∷ [])) (Post (vint w64 n))
   exits n n-fits zs e l =
       qed W ((‵ (flft κ q) ⊛ ‵ (flft κ′ q′) ⊛ ‵ (flft κ″ q″) ⊛ ‵ ftrue) ∷ ‵ (finally u64 γ zs) ∷ Kept-step ∷ []) ∵

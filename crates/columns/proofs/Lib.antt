@@ -1,0 +1,3 @@
+mod Adding
+pub mod Fronts
+pub mod Blocks

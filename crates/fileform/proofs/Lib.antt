@@ -1,0 +1,11 @@
+pub mod Each
+pub mod Rooms
+pub mod Agree
+pub mod RowLaws
+pub mod RowWalks
+pub mod Forms
+pub mod Contents
+pub mod Tables
+pub mod Refusals
+pub mod Reasons
+pub mod Unique

@@ -1,0 +1,158 @@
+-- `fileform::table::put_key` meets its contract: each key is the table's, and none is longer than 7 bytes.
+-- Assumes nothing.
+use mathlib.Core.Path.{sym, subst}
+use Rattle.tables.specs.declared.Table.the-variants.{Zones, Owners, Units, Accounts, Loads, Reservations}
+use Rattle.fileform.specs.Steps.{KeyPut}
+use Rattle.fileform.proofs.Tables.{key-put}
+use borrow.Author.Needs.{needs}
+use Rattle.fileform.proofs.table.put_key.Statement.{statement}
+use Rattle.fileform.proofs.table.put_key.Tie as tie
+
+enum-told : tie.Need-enum-told
+enum-told c = search needs
+
+slice-aggregate-put-bytes : tie.Need-slice-aggregate-put-bytes
+slice-aggregate-put-bytes c = search needs
+
+put-bytes-requires : tie.Need-put-bytes-requires
+put-bytes-requires c κs = search needs
+
+enum-told-2 : tie.Need-enum-told-2
+enum-told-2 c = search needs
+
+slice-aggregate-put-bytes-2 : tie.Need-slice-aggregate-put-bytes-2
+slice-aggregate-put-bytes-2 c = search needs
+
+put-bytes-requires-2 : tie.Need-put-bytes-requires-2
+put-bytes-requires-2 c κs = search needs
+
+enum-told-3 : tie.Need-enum-told-3
+enum-told-3 c = search needs
+
+slice-aggregate-put-bytes-3 : tie.Need-slice-aggregate-put-bytes-3
+slice-aggregate-put-bytes-3 c = search needs
+
+put-bytes-requires-3 : tie.Need-put-bytes-requires-3
+put-bytes-requires-3 c κs = search needs
+
+enum-told-4 : tie.Need-enum-told-4
+enum-told-4 c = search needs
+
+slice-aggregate-put-bytes-4 : tie.Need-slice-aggregate-put-bytes-4
+slice-aggregate-put-bytes-4 c = search needs
+
+put-bytes-requires-4 : tie.Need-put-bytes-requires-4
+put-bytes-requires-4 c κs = search needs
+
+enum-told-5 : tie.Need-enum-told-5
+enum-told-5 c = search needs
+
+slice-aggregate-put-bytes-5 : tie.Need-slice-aggregate-put-bytes-5
+slice-aggregate-put-bytes-5 c = search needs
+
+put-bytes-requires-5 : tie.Need-put-bytes-requires-5
+put-bytes-requires-5 c κs = search needs
+
+enum-told-6 : tie.Need-enum-told-6
+enum-told-6 c = search needs
+
+slice-aggregate-put-bytes-6 : tie.Need-slice-aggregate-put-bytes-6
+slice-aggregate-put-bytes-6 c = search needs
+
+put-bytes-requires-6 : tie.Need-put-bytes-requires-6
+put-bytes-requires-6 c κs = search needs
+
+same-length : tie.Need-same-length
+same-length c = search needs
+
+returns : tie.Need-returns
+returns c =
+    let e = c .before .before .before .before .before .before .before .before in
+    let t = c .before .before .put-bytes in
+    subst (λ u. KeyPut u (t .result) (t .last .1 .0)) (sym (c .before .before .before .before .before .enum-told .given .1))
+    (key-put Zones (e .args .out .now) (t .result) (t .last .1 .0) (e .pre) (t .ensures))
+
+same-length-2 : tie.Need-same-length-2
+same-length-2 c = search needs
+
+returns-2 : tie.Need-returns-2
+returns-2 c =
+    let e = c .before .before .before .before .before .before .before .before in
+    let t = c .before .before .put-bytes2 in
+    subst (λ u. KeyPut u (t .result) (t .last .1 .0)) (sym (c .before .before .before .before .before .enum-told2 .given .1))
+    (key-put Owners (e .args .out .now) (t .result) (t .last .1 .0) (e .pre) (t .ensures))
+
+same-length-3 : tie.Need-same-length-3
+same-length-3 c = search needs
+
+returns-3 : tie.Need-returns-3
+returns-3 c =
+    let e = c .before .before .before .before .before .before .before .before in
+    let t = c .before .before .put-bytes3 in
+    subst (λ u. KeyPut u (t .result) (t .last .1 .0)) (sym (c .before .before .before .before .before .enum-told3 .given .1))
+    (key-put Units (e .args .out .now) (t .result) (t .last .1 .0) (e .pre) (t .ensures))
+
+same-length-4 : tie.Need-same-length-4
+same-length-4 c = search needs
+
+returns-4 : tie.Need-returns-4
+returns-4 c =
+    let e = c .before .before .before .before .before .before .before .before in
+    let t = c .before .before .put-bytes4 in
+    subst (λ u. KeyPut u (t .result) (t .last .1 .0)) (sym (c .before .before .before .before .before .enum-told4 .given .1))
+    (key-put Accounts (e .args .out .now) (t .result) (t .last .1 .0) (e .pre) (t .ensures))
+
+same-length-5 : tie.Need-same-length-5
+same-length-5 c = search needs
+
+returns-5 : tie.Need-returns-5
+returns-5 c =
+    let e = c .before .before .before .before .before .before .before .before in
+    let t = c .before .before .put-bytes5 in
+    subst (λ u. KeyPut u (t .result) (t .last .1 .0)) (sym (c .before .before .before .before .before .enum-told5 .given .1))
+    (key-put Loads (e .args .out .now) (t .result) (t .last .1 .0) (e .pre) (t .ensures))
+
+same-length-6 : tie.Need-same-length-6
+same-length-6 c = search needs
+
+returns-6 : tie.Need-returns-6
+returns-6 c =
+    let e = c .before .before .before .before .before .before .before .before in
+    let t = c .before .before .put-bytes6 in
+    subst (λ u. KeyPut u (t .result) (t .last .1 .0)) (sym (c .before .before .before .before .before .enum-told6 .given .1))
+    (key-put Reservations (e .args .out .now) (t .result) (t .last .1 .0) (e .pre) (t .ensures))
+
+pub put-key-spec : {M : Type 1} → statement M
+put-key-spec =
+    tie.close
+    (tie.spec
+    enum-told
+    slice-aggregate-put-bytes
+    put-bytes-requires
+    enum-told-2
+    slice-aggregate-put-bytes-2
+    put-bytes-requires-2
+    enum-told-3
+    slice-aggregate-put-bytes-3
+    put-bytes-requires-3
+    enum-told-4
+    slice-aggregate-put-bytes-4
+    put-bytes-requires-4
+    enum-told-5
+    slice-aggregate-put-bytes-5
+    put-bytes-requires-5
+    enum-told-6
+    slice-aggregate-put-bytes-6
+    put-bytes-requires-6
+    same-length
+    returns
+    same-length-2
+    returns-2
+    same-length-3
+    returns-3
+    same-length-4
+    returns-4
+    same-length-5
+    returns-5
+    same-length-6
+    returns-6)

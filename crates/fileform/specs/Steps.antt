@@ -1,0 +1,13 @@
+-- What functions of this crate say among themselves. A reader who wants to know what is promised needs none of it.
+-- Assumes nothing.
+use mathlib.Core.Path.{_≡_}
+use mathlib.Core.List.{List}
+use Prim.Native.Nat.{ℕ, _≤_}
+use lib.ListN.{length, take}
+use Rattle.tables.specs.declared.Table.{Table}
+use Rattle.fileform.specs.Form.{lineKey}
+
+-- a table's key at the front of lent bytes, and its length
+pub record KeyPut (table : Table) (size : ℕ) (after : List ℕ) : Type 0 where
+  pub inside : size ≤ length after
+  pub its : take size after ≡ lineKey table

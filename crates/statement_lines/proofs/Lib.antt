@@ -1,0 +1,3 @@
+pub mod Joining
+pub mod Showing
+pub mod Unique
