@@ -28,6 +28,7 @@ fn behind(line: &[u8], from: usize, byte: u8) -> usize
     at
 }
 
+// Whether a byte stands at a place.
 fn stands(line: &[u8], at: usize, byte: u8) -> bool {
     if at < line.len() {
         return line[at] == byte;
@@ -60,6 +61,7 @@ fn numbers_at(line: &[u8], from: usize, words: &mut [u64]) -> usize
     count
 }
 
+// Reads a line, its lists into lent words.
 fn read_line(line: &[u8], weights: &mut [u64], words: &mut [u64]) -> Given
     ensures { λ r. ⌜ (r .weights ≤ length (now (weights .exit))) × (r .words ≤ length (now (words .exit))) ⌝ }
 {
@@ -108,13 +110,18 @@ fn show(line: &[u8]) {
     text(b"\n");
 }
 
-pub(crate) fn run() {
-    let mut cases = [0u8; 8_192];
-    let count = io::read_full(libc::STDIN_FILENO, &mut cases);
+// Every line in turn.
+fn show_all(lines: &[u8]) {
     let mut at = 0;
-    while at < count {
-        let end = bytes::scan::find(&cases, at, count, b'\n');
-        show(&cases[at..end]);
+    while at < lines.len() {
+        let end = bytes::scan::find(lines, at, lines.len(), b'\n');
+        show(&lines[at..end]);
         at = end + 1;
     }
+}
+
+pub(crate) fn run() {
+    let mut input = [0u8; 8_192];
+    let count = io::read_full(libc::STDIN_FILENO, &mut input);
+    show_all(&input[..count]);
 }

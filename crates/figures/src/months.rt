@@ -1,5 +1,6 @@
 // The figures of the month: N1 and N2, M1, and the lengths of February and April.
 use crate::print::answer_name;
+use crate::print::digits;
 use crate::print::number;
 use crate::print::text;
 use month::Made;
@@ -34,8 +35,9 @@ fn twelfth(name: &[u8], annual: u64, month: u64, days: u64)
     text(name);
     number(b": annual ", annual);
     number(b" in month ", month);
+    text(b": ");
     match Month::new(month, days) {
-        Made::Good(made) => number(b": ", made.twelfth(annual)),
+        Made::Good(made) => digits(made.twelfth(annual)),
         Made::Bad => answer_name(answer::MONTH),
     }
     text(b"\n");

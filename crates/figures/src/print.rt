@@ -10,7 +10,7 @@ pub(crate) fn text(bytes: &[u8]) {
     io::write_all(libc::STDOUT_FILENO, bytes);
 }
 
-fn digits(number: u64) {
+pub(crate) fn digits(number: u64) {
     io::print_decimal(libc::STDOUT_FILENO, number);
 }
 

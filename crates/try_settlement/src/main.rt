@@ -51,11 +51,16 @@ fn show(cases: &[u8], from: usize) -> usize
     behind_line(cases, end)
 }
 
+// Every case in turn.
+fn show_all(cases: &[u8]) {
+    let mut at = 0;
+    while at < cases.len() {
+        at = show(cases, at);
+    }
+}
+
 fn main() {
     let mut input = [0u8; 8_192];
     let count = io::read_full(STDIN_FILENO, &mut input);
-    let mut at = 0;
-    while at < count {
-        at = show(&input[..count], at);
-    }
+    show_all(&input[..count]);
 }

@@ -23,26 +23,29 @@ slice-aggregate-number-2 c = search needs
 number-requires-2 : tie.Need-number-requires-2
 number-requires-2 c κs = search needs
 
+slice-aggregate-text : tie.Need-slice-aggregate-text
+slice-aggregate-text c = search needs
+
+text-requires-2 : tie.Need-text-requires-2
+text-requires-2 c κs = search needs
+
 new-requires : tie.Need-new-requires
 new-requires c κs = search needs
 
 enum-known-made : tie.Need-enum-known-made
 enum-known-made c = search needs
 
-slice-aggregate-number-3 : tie.Need-slice-aggregate-number-3
-slice-aggregate-number-3 c = search needs
-
 twelfth-requires : tie.Need-twelfth-requires
 twelfth-requires c κs =
-    let start = c .before .before .before .before .before .before .before .before .before .before .before in
-    let new = c .before .before .before .before .new in
-    let made = made-good (start .args .month) (start .args .days) _ (sym (new .ensures) ∙ c .before .before .made .given .1) in
+    let start = c .before .before .before .before .before .before .before .before .before .before .before .before in
+    let new = c .before .before .before .new in
+    let made = made-good (start .args .month) (start .args .days) _ (sym (new .ensures) ∙ c .before .made .given .1) in
     let same = ap (λ (m : Month). m .number) (made .1) in
     let within = month-within (start .args .month) (start .args .days) (made .0) in
     (omega (arith, same, within .first), omega (arith, same, within .last), start .pre)
 
-number-requires-3 : tie.Need-number-requires-3
-number-requires-3 c κs = search needs
+digits-requires : tie.Need-digits-requires
+digits-requires c κs = search needs
 
 enum-told : tie.Need-enum-told
 enum-told c = search needs
@@ -50,11 +53,11 @@ enum-told c = search needs
 answer-name-requires : tie.Need-answer-name-requires
 answer-name-requires c κs = search needs
 
-slice-aggregate-text : tie.Need-slice-aggregate-text
-slice-aggregate-text c = search needs
+slice-aggregate-text-2 : tie.Need-slice-aggregate-text-2
+slice-aggregate-text-2 c = search needs
 
-text-requires-2 : tie.Need-text-requires-2
-text-requires-2 c κs = search needs
+text-requires-3 : tie.Need-text-requires-3
+text-requires-3 c κs = search needs
 
 returns : tie.Need-returns
 returns c = search needs
@@ -68,13 +71,14 @@ twelfth-spec =
     number-requires
     slice-aggregate-number-2
     number-requires-2
-    new-requires
-    enum-known-made
-    slice-aggregate-number-3
-    twelfth-requires
-    number-requires-3
-    enum-told
-    answer-name-requires
     slice-aggregate-text
     text-requires-2
+    new-requires
+    enum-known-made
+    twelfth-requires
+    digits-requires
+    enum-told
+    answer-name-requires
+    slice-aggregate-text-2
+    text-requires-3
     returns)

@@ -1,27 +1,19 @@
--- `figures::cases::run` is safe and ends: each line that is shown leaves less.
+-- `figures::cases::show_all` is safe and ends: each line that is shown leaves less.
 -- Assumes nothing.
 use Prim.Native.Nat.{_≤_, _+_, _-_}
+use lib.ListN.{length}
 use borrow.Author.Needs.{needs}
-use Rattle.figures.proofs.cases.run.Statement.{statement}
-use Rattle.figures.proofs.cases.run.Tie as tie
+use Rattle.figures.proofs.cases.show_all.Statement.{statement}
+use Rattle.figures.proofs.cases.show_all.Tie as tie
 
 abbrev Inv-loop : tie.InvT-loop
-Inv-loop cases count at₀ at = at ≤ count + 1
+Inv-loop lines at₀ at = at ≤ length lines + 1
 
 abbrev μ-loop : tie.MeasureT-loop
-μ-loop cases count at₀ at = count + 1 - at
-
-slice-aggregate-read-full : tie.Need-slice-aggregate-read-full Inv-loop μ-loop
-slice-aggregate-read-full c = search needs
-
-read-full-requires : tie.Need-read-full-requires Inv-loop μ-loop
-read-full-requires c κs = search needs
+μ-loop lines at₀ at = length lines + 1 - at
 
 loop-holds : tie.Need-loop-holds Inv-loop μ-loop
 loop-holds c = search needs
-
-slice-aggregate-find : tie.Need-slice-aggregate-find Inv-loop μ-loop
-slice-aggregate-find c = search needs
 
 find-requires : tie.Need-find-requires Inv-loop μ-loop
 find-requires c κs = search needs
@@ -50,16 +42,13 @@ loop-again c = search needs
 returns : tie.Need-returns Inv-loop μ-loop
 returns c = search needs
 
-pub run-spec : {M : Type 1} → statement M
-run-spec =
+pub show-all-spec : {M : Type 1} → statement M
+show-all-spec =
     tie.close
     (tie.spec
     Inv-loop
     μ-loop
-    slice-aggregate-read-full
-    read-full-requires
     loop-holds
-    slice-aggregate-find
     find-requires
     sub-show
     part-show-start
