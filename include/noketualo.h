@@ -105,7 +105,7 @@ uint64_t noketualo_check(uint64_t pot, const uint8_t *weights, size_t weights_le
  *   ROOM   the output is too short for the statement; NOKETUALO_STATEMENT_ROOM bytes never are
  *
  * Accepted, its value is the statement's length, and no byte beyond it is written; refused, the
- * value is 0 and no byte is written. The call takes about 46 KB of stack.
+ * value is 0 and no byte is written. The call takes about 44 KB of stack.
  */
 uint64_t noketualo_statement(const uint8_t *text, size_t text_len, uint8_t *out, size_t out_len);
 
