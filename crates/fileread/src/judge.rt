@@ -143,15 +143,15 @@ pub fn nothing_read(answer: Answer) -> Reading
 }
 
 // What the first walk finds: what the text holds, with its first refusal if there is one, and where the tables begin.
-pub struct Judged {
+pub struct FirstWalk {
     pub held: Reading,
     pub body: usize,
 }
 
-fn stopped(answer: Answer) -> Judged
+fn stopped(answer: Answer) -> FirstWalk
     ensures { λ r. ⌜ r .held ≡ readAnswer (refused answer) ⌝ }
 {
-    Judged {
+    FirstWalk {
         held: nothing_read(answer),
         body: 0,
     }
@@ -182,7 +182,7 @@ fn found(answer: Answer, head: &[u64], counts: &[u64]) -> Reading
 }
 
 // Judges a whole text.
-pub fn judge_text(text: &[u8]) -> Judged
+pub fn judge_text(text: &[u8]) -> FirstWalk
     ensures { λ r. ⌜ TextJudged (now (text .entry)) (r .held) (r .body) ⌝ }
 {
     let mut head = [0u64; 3];
@@ -200,7 +200,7 @@ pub fn judge_text(text: &[u8]) -> Judged
         return stopped(second);
     }
     let end = judge_end(text, last, lists::sum_capped(&counts, u64::MAX));
-    Judged {
+    FirstWalk {
         held: found(end, &head, &counts),
         body,
     }

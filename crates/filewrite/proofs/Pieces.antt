@@ -18,7 +18,7 @@ use Rattle.fileform.specs.Reading.{rowsInAll}
 use Rattle.fileform.specs.Writing.{headsText, tablesText, fileText}
 use Rattle.fileform.specs.Calls.{tableText}
 use Rattle.fileform.proofs.Each.{order-drop, order-over}
-use Rattle.filewrite.specs.Calls.{numbersOf, rowsOf, allRows, monthText}
+use Rattle.filewrite.specs.Calls.{numbersOf, wholeRows, allRows, monthText}
 
 -- the first lines
 abbrev pub monthLine : Head → List ℕ
@@ -72,11 +72,11 @@ rowsFrom t k = rowsInAll (drop k (allRows t))
 
 pub text-end : (t : Tables) (k : ℕ) → tableCount ≤ k → textFrom t k ≡ []
 unfolding tablesText
-text-end t k h = ap₂ tablesText (order-over kindOf k h) (order-over (rowsOf t) k h)
+text-end t k h = ap₂ tablesText (order-over kindOf k h) (order-over (wholeRows t) k h)
 
 pub rows-end : (t : Tables) (k : ℕ) → tableCount ≤ k → rowsFrom t k ≡ 0
 unfolding rowsInAll
-rows-end t k h = ap rowsInAll (order-over (rowsOf t) k h)
+rows-end t k h = ap rowsInAll (order-over (wholeRows t) k h)
 
 -- where the last table is behind, nothing is left to measure or to write
 pub size-end : (t : Tables) (k size cap : ℕ) → tableCount ≤ k → size ≤ cap → Sized size (textFrom t k) cap size
@@ -92,14 +92,14 @@ module _ (l : List (List ℕ)) (k : ℕ) (h : k < tableCount) (table : Table) (w
 
   text-on : textFrom (tablesFrom l) k ≡ tableText (tableAt k) (wordsOf (tablesFrom l) (tableAt k)) ++ textFrom (tablesFrom l) (k + 1)
   unfolding tablesText
-  text-on = ap₂ tablesText (order-drop kindOf k h) (order-drop (rowsOf (tablesFrom l)) k h)
+  text-on = ap₂ tablesText (order-drop kindOf k h) (order-drop (wholeRows (tablesFrom l)) k h)
 
   pub text-next : textFrom (tablesFrom l) k ≡ tableText table words ++ textFrom (tablesFrom l) (k + 1)
   text-next = text-on ∙ ap₂ (λ t w. tableText t w ++ textFrom (tablesFrom l) (k + 1)) (sym called) (sym words-are)
 
   rows-on : rowsFrom (tablesFrom l) k ≡ length (wordsOf (tablesFrom l) (tableAt k)) / width (tableAt k) + rowsFrom (tablesFrom l) (k + 1)
   unfolding rowsInAll
-  rows-on = ap rowsInAll (order-drop (rowsOf (tablesFrom l)) k h)
+  rows-on = ap rowsInAll (order-drop (wholeRows (tablesFrom l)) k h)
 
   pub rows-next : rowsFrom (tablesFrom l) k ≡ length words / width table + rowsFrom (tablesFrom l) (k + 1)
   rows-next = rows-on ∙ ap₂ (λ t w. length w / width t + rowsFrom (tablesFrom l) (k + 1)) (sym called) (sym words-are)

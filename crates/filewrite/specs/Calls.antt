@@ -25,12 +25,12 @@ abbrev pub numbersOf : Head → List ℕ
 numbersOf head = head .month ∷ head .days ∷ head .nonzone ∷ []
 
 -- a table's whole rows
-abbrev pub rowsOf : Tables → Table → Rows
-rowsOf t table = record { count = length (wordsOf t table) / width table; words = wordsOf t table }
+abbrev pub wholeRows : Tables → Table → Rows
+wholeRows t table = record { count = length (wordsOf t table) / width table; words = wordsOf t table }
 
 -- .. of every table
 abbrev pub allRows : Tables → List Rows
-allRows t = inOrder (rowsOf t)
+allRows t = inOrder (wholeRows t)
 
 -- what is written: a head and the tables
 abbrev pub contentsOf : Head → Tables → Contents

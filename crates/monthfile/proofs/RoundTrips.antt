@@ -28,7 +28,7 @@ use Rattle.fileread.specs.declared.Reading.{Reading}
 use Rattle.fileread.specs.Calls.{headRead, readAnswer, Reads, countIn, wordsRead, tablesRead}
 use Rattle.fileread.proofs.Parts.{at-counts}
 use Rattle.filewrite.specs.declared.Written.{Written}
-use Rattle.filewrite.specs.Calls.{numbersOf, rowsOf, allRows, contentsOf, monthText, Writes}
+use Rattle.filewrite.specs.Calls.{numbersOf, wholeRows, allRows, contentsOf, monthText, Writes}
 use Rattle.monthfile.specs.Front.{atFront}
 use Rattle.monthfile.specs.Refused.{Full}
 use Rattle.monthfile.proofs.ReadCalls.{read-accepted, good-read}
@@ -112,7 +112,7 @@ module _ (text : List ℕ) (r : Reading) (after : Tables) (read : TextRead text 
           few = le-trans (le-of-eq count-is) (own-read .fits .few);
         }
 
-    rows-are : rowsOf (tablesRead r after) table ≡ own
+    rows-are : wholeRows (tablesRead r after) table ≡ own
     rows-are = λ i. record { count = count-is i; words = words-are i }
 
   -- what was read is what the text holds, and its text is the text
@@ -140,7 +140,7 @@ module _ (text : List ℕ) (r : Reading) (after : Tables) (read : TextRead text 
 
 -- what `write` wrote is read again: the same head, and in each table the same rows
 module _ (head : Head) (t : Tables) (small : Below (numbersOf head)) (below : (table : Table) → Below (wordsOf t table)) where
-  row-fits : ((table : Table) → GoodCount t table) → (table : Table) → Fits (kindOf table) (rowsOf t table)
+  row-fits : ((table : Table) → GoodCount t table) → (table : Table) → Fits (kindOf table) (wholeRows t table)
   row-fits all table =
       record {
         whole =
@@ -160,7 +160,7 @@ module _ (head : Head) (t : Tables) (small : Below (numbersOf head)) (below : (t
       }
 
   held-words : (table : Table) → nth (allRows t) (placeOf table) .words ≡ wordsOf t table
-  held-words table = ap (λ (r : Rows). r .words) (order-at (rowsOf t) noRows table)
+  held-words table = ap (λ (r : Rows). r .words) (order-at (wholeRows t) noRows table)
 
   module _ (out after : List ℕ) (w : Written) (writes : Writes head t out after w) (z : w .answer .number ≡ 0) where
     abbrev c : Contents
