@@ -42,14 +42,6 @@ then-second a b e = rw (eq-eqb (a .number) 0 e)
 pub accepted-then : (a : Answer) → (accepted then a) ≡ a
 accepted-then a = then-second accepted a refl
 
-pub then-assoc : (a b c : Answer) → (a then b then c) ≡ (a then (b then c))
-then-assoc a b c =
-    ⊎-elim
-    (λ (z : a .number ≡ 0). ap (λ k. k then c) (then-second a b z) ∙ sym (then-second a (b then c) z))
-    (λ (d : a .number ≢ 0).
-    ap (λ k. k then c) (then-first a b d) ∙ then-first a c d ∙ sym (then-first a (b then c) d))
-    (zero-or-not (a .number))
-
 -- in turn: what is accepted leaves the answer to what follows, what is refused stays
 pub then-on : {a b r : Answer} → a ≡ accepted → b ≡ r → (a then b) ≡ r
 then-on {a} {b} e f = then-second a b (ap (λ (k : Answer). k .number) e) ∙ f

@@ -7,6 +7,10 @@ use lib.ListN.{length, take}
 use Rattle.tables.specs.declared.Table.{Table}
 use Rattle.fileform.specs.Form.{lineKey}
 
+-- the length of the longest key
+abbrev pub longestKey : ℕ
+longestKey = 7
+
 -- a table's key at the front of lent bytes, and its length
 pub record KeyPut (table : Table) (size : ℕ) (after : List ℕ) : Type 0 where
   pub inside : size ≤ length after

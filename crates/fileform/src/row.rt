@@ -1,4 +1,4 @@
-// The rows of one table, for any key and width: counted, stored, measured and written.
+// The rows of one kind of line, for any key and width: counted, stored, measured and written.
 ghost use mathlib.Core.Path.{_≡_};
 ghost use Prim.Native.Nat.{_+_, _*_, _≤_};
 ghost use lib.ListN.{length, drop};

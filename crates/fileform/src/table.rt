@@ -7,7 +7,7 @@ ghost use Rattle.text.specs.Places.{PutAt, Sized};
 ghost use Rattle.fileform.specs.Form.{kindOf, lineOf};
 ghost use Rattle.fileform.specs.Reading.{rowLines};
 ghost use Rattle.fileform.specs.Calls.{CountedAt, RowsTaken, tableText};
-ghost use Rattle.fileform.specs.Steps.{KeyPut};
+ghost use Rattle.fileform.specs.Steps.{longestKey, KeyPut};
 use crate::keys;
 use crate::row;
 use crate::row::Counted;
@@ -15,7 +15,7 @@ use tables::Table;
 
 // Writes a table's key to the front of `out`, and answers its length.
 fn put_key(table: Table, out: &mut [u8]) -> usize
-    requires { ⌜ 7 ≤ length (now out) ⌝ }
+    requires { ⌜ longestKey ≤ length (now out) ⌝ }
     ensures { λ r. ⌜ KeyPut table r (now (out .exit)) ⌝ }
 {
     match table {

@@ -65,10 +65,6 @@ module _ {p q : Pots} (s : Same p q) where
       (λ z b. ap (λ n. refuse n DIVISIONS (place + z)) (same-refusal z b))
       ∙ ap (turns (λ z. refuse (groupRefusal q z) DIVISIONS (place + z))) (s .same-groups)
 
-  pub same-grouped : (place : ℕ) (before after : List ℕ) (r : Answer) → Grouped p place before after r → Grouped q place before after r
-  same-grouped place before after r g =
-      same-written g (s .same-members) (λ i b. same-amounts i) (same-turn place)
-
 -- the lists that a caller fills from its pots
 pub filled : (p : Pots)
     → Same

@@ -31,29 +31,9 @@ use Rattle.judgement.specs.Judgement.{headLooked, rowsJudged, judged, mo
 use Rattle.judgement.proofs.Outcomes.{refused-given}
 use Rattle.judgement.proofs.Refusals.{first-start, first-more, first-stop, first-end}
 
--- the loop over the tables: the answer so far is that of the first k of them
-pub record TablesPassed (days : ℕ) (t : Tables) (answer : Answer) (k : ℕ) : Type 0 where
-  pub within : k ≤ tableCount
-  pub so-far : answer ≡ turns (λ i. rowsJudged days t (tableAt i)) k
-
-pub tables-start : (days : ℕ) (t : Tables) → TablesPassed days t accepted 0
-unfolding turns
-tables-start days t = record { within = omega arith; so-far = refl }
-
-module _ {days : ℕ} {t : Tables} {answer : Answer} {k : ℕ} (passed : TablesPassed days t answer k) where
-  abbrev judgedAt : ℕ → Answer
-  judgedAt i = rowsJudged days t (tableAt i)
-
-  pub tables-more : (a : Answer) (table : Table) → k < tableCount → table ≡ tableAt k → a ≡ (answer then rowsJudged days t table) → TablesPassed days t a (k + 1)
-  tables-more a table h its r = record {
-    within = omega arith;
-    so-far = r ∙ ap₂ (λ b x. b then rowsJudged days t x) (passed .so-far) its ∙ sym (turns-suc judgedAt k);
-  }
-
-  pub tables-end : (before : Answer) → before .number ≡ 0 → tableCount ≤ k → answer ≡ (before then tablesInTurn (rowsJudged days t))
-  unfolding tablesInTurn
-  tables-end before fine h =
-      passed .so-far ∙ ap (turns judgedAt) (le-antisymm (passed .within) h) ∙ sym (then-second before (turns judgedAt tableCount) fine)
+-- the tables in turn behind an answer that accepts
+pub behind-accepted : (before a behind : Answer) → before .number ≡ 0 → a ≡ behind → a ≡ (before then behind)
+behind-accepted before a behind fine e = e ∙ sym (then-second before behind fine)
 
 -- there are places for fewer rows than there are exactly where there are fewer places than figures
 pub places : (lent width count : ℕ) → 0 < width → ltb (lent / width) count ≡ ltb lent (count * width)

@@ -76,10 +76,6 @@ module _ (s : Service) (z : ℕ) (fine : splitRefusal s z ≡ 0) where
       omega arith
 
   -- no use, no side
-  pub no-zone-use : zoneUse s ≡ 0 → zoneSide s z ≡ 0
-  unfolding zoneSide bothUses
-  no-zone-use e = no-weight-no-share (s .pot z) (bothUses s) base 0 (lit< tt) e
-
   pub no-nonzone-use : nonzoneUse s ≡ 0 → nonzoneSide s z ≡ 0
   unfolding nonzoneSide bothUses
   no-nonzone-use e = no-weight-no-share (s .pot z) (bothUses s) base 1 (lit< tt) e

@@ -51,10 +51,6 @@ module _ (m : Input) (a : ℕ) where
   unfolding nonzonePart
   nonzone-part-is-use e = rw (eq-eqb (accountZone accounts a) 0 e)
 
-  pub no-zone-part : accountZone accounts a ≡ 0 → zonePart accounts (accountUse m) a ≡ 0
-  unfolding zonePart
-  no-zone-part e = rw (eq-eqb (accountZone accounts a) 0 e)
-
   -- without use there are no parts
   pub idle-parts : accountUse m a ≡ 0 → (zonePart accounts (accountUse m) a ≡ 0) × (nonzonePart accounts (accountUse m) a ≡ 0)
   unfolding zonePart nonzonePart

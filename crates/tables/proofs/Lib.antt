@@ -1,5 +1,5 @@
 pub mod Places
-pub mod Counting
+pub mod Passing
 pub mod Tests
 pub mod Stages
 pub mod Unique

@@ -1,6 +1,6 @@
 -- Rows laid end to end: every entry of a row lies within its table. And tables by their place in the order of their numbers.
 -- Assumes nothing.
-use mathlib.Core.Path.{_≡_, refl}
+use mathlib.Core.Path.{_≡_, refl, sym, ap, _∙_}
 use mathlib.Core.Logic.{_≢_}
 use mathlib.Core.List.{List, []}
 use Prim.Native.Nat.{ℕ, zero, suc, _+_, _*_, _/_, _<_}
@@ -71,11 +71,12 @@ words-placed l Accounts = refl
 words-placed l Loads = refl
 words-placed l Reservations = refl
 
+-- a table that is told by its place: the place is its own, and its words are those there
+pub place-told : (k : ℕ) (table : Table) → k < tableCount → table ≡ tableAt k → k ≡ placeOf table
+place-told k table h its = sym (place-at k h) ∙ ap placeOf (sym its)
+
+pub words-told : (l : List (List ℕ)) (k : ℕ) (table : Table) → k < tableCount → table ≡ tableAt k → getD l k [] ≡ wordsOf (tablesFrom l) table
+words-told l k table h its = ap (λ i. getD l i []) (place-told k table h its) ∙ words-placed l table
+
 pub words-at : (l : List (List ℕ)) (k : ℕ) → k < tableCount → getD l k [] ≡ wordsOf (tablesFrom l) (tableAt k)
-words-at l zero h = refl
-words-at l (suc zero) h = refl
-words-at l (suc (suc zero)) h = refl
-words-at l (suc (suc (suc zero))) h = refl
-words-at l (suc (suc (suc (suc zero)))) h = refl
-words-at l (suc (suc (suc (suc (suc zero))))) h = refl
-words-at l (suc (suc (suc (suc (suc (suc k)))))) h = absurd (omega (arith, h))
+words-at l k h = words-told l k (tableAt k) h refl

@@ -4,18 +4,10 @@
 use Prim.Native.Nat.{ℕ, zero, suc, _/_}
 use mathlib.Core.List.{List, []}
 use lib.ListN.{length, getD}
-use Rattle.answer.specs.Numbers as tables
+use Rattle.answer.specs.Numbers as numbers
+use Rattle.tables.specs.declared.Shape.{Shape}
 use Rattle.tables.specs.declared.Table.{Table}
 use Rattle.tables.specs.declared.Table.the-variants.{Zones, Owners, Units, Accounts, Loads, Reservations}
-
--- "Table numbers are used in refusals"
-abbrev pub number : Table → ℕ
-number Zones = tables.ZONES
-number Owners = tables.OWNERS
-number Units = tables.UNITS
-number Accounts = tables.ACCOUNTS
-number Loads = tables.LOADS
-number Reservations = tables.RESERVATIONS
 
 -- how many tables there are
 abbrev pub tableCount : ℕ
@@ -30,42 +22,31 @@ tableAt (suc (suc (suc zero))) = Accounts
 tableAt (suc (suc (suc (suc zero)))) = Loads
 tableAt (suc (suc (suc (suc (suc k))))) = Reservations
 
--- the place of each
+-- the paper's list: a table's place, its number ("Table numbers are used in refusals"), how many entries a row has, how many of them in
+-- front are its key ("Zones, owners, units, accounts and reservations strictly ascend by their first entry, loads by account, then day"),
+-- and "at most" how many rows there are
+abbrev pub shapeOf : Table → Shape
+shapeOf Zones = record { place = 0; number = numbers.ZONES; width = 2; keys = 1; limit = 16 }
+shapeOf Owners = record { place = 1; number = numbers.OWNERS; width = 3; keys = 1; limit = 64 }
+shapeOf Units = record { place = 2; number = numbers.UNITS; width = 6; keys = 1; limit = 64 }
+shapeOf Accounts = record { place = 3; number = numbers.ACCOUNTS; width = 3; keys = 1; limit = 32 }
+shapeOf Loads = record { place = 4; number = numbers.LOADS; width = 3; keys = 2; limit = 992 }
+shapeOf Reservations = record { place = 5; number = numbers.RESERVATIONS; width = 3; keys = 1; limit = 32 }
+
 abbrev pub placeOf : Table → ℕ
-placeOf Zones = 0
-placeOf Owners = 1
-placeOf Units = 2
-placeOf Accounts = 3
-placeOf Loads = 4
-placeOf Reservations = 5
+placeOf table = shapeOf table .place
 
--- how many entries a row has
+abbrev pub number : Table → ℕ
+number table = shapeOf table .number
+
 abbrev pub width : Table → ℕ
-width Zones = 2
-width Owners = 3
-width Units = 6
-width Accounts = 3
-width Loads = 3
-width Reservations = 3
+width table = shapeOf table .width
 
--- "at most"
-abbrev pub limit : Table → ℕ
-limit Zones = 16
-limit Owners = 64
-limit Units = 64
-limit Accounts = 32
-limit Loads = 992
-limit Reservations = 32
-
--- how many entries in front are the row's key: "Zones, owners, units, accounts and reservations strictly ascend by their first entry,
--- loads by account, then day"
 abbrev pub keyColumns : Table → ℕ
-keyColumns Zones = 1
-keyColumns Owners = 1
-keyColumns Units = 1
-keyColumns Accounts = 1
-keyColumns Loads = 2
-keyColumns Reservations = 1
+keyColumns table = shapeOf table .keys
+
+abbrev pub limit : Table → ℕ
+limit table = shapeOf table .limit
 
 -- "every account row's three charges", "every owner's four credits"
 abbrev pub chargeWidth : ℕ

@@ -5,7 +5,7 @@
 ghost use mathlib.Core.Path.{_≡_};
 ghost use mathlib.Core.List.{map};
 ghost use Prim.Native.Nat.{_/_};
-ghost use Rattle.tables.specs.Shape.{number, tableAt, placeOf, width, keyColumns, limit, tablesFrom, wordsOf};
+ghost use Rattle.tables.specs.Shape.{shapeOf, tableAt, placeOf, number, width, keyColumns, limit, tablesFrom, wordsOf};
 
 pub mod columns;
 pub mod counts;
@@ -88,20 +88,6 @@ pub const BLACK_START: u64 = 1;
 
 pub const REACTIVE: u64 = 2;
 
-// The number of a table in a refusal.
-pub fn number(table: Table) -> u64
-    ensures { λ r. ⌜ r ≡ number table ⌝ }
-{
-    match table {
-        Table::Zones => answer::ZONES,
-        Table::Owners => answer::OWNERS,
-        Table::Units => answer::UNITS,
-        Table::Accounts => answer::ACCOUNTS,
-        Table::Loads => answer::LOADS,
-        Table::Reservations => answer::RESERVATIONS,
-    }
-}
-
 // The table at a place, in the order of their numbers; a place behind them is taken for the last.
 pub fn table_at(place: usize) -> Table
     ensures { λ r. ⌜ r ≡ tableAt place ⌝ }
@@ -116,18 +102,94 @@ pub fn table_at(place: usize) -> Table
     }
 }
 
-// The place of a table.
+// What the paper's list says of a table: its place among the tables, its number in a refusal, how many entries a row has, how many of
+// them in front are the key by which the rows ascend, and how many rows there may be.
+pub struct Shape {
+    pub place: usize,
+    pub number: u64,
+    pub width: usize,
+    pub keys: usize,
+    pub limit: usize,
+}
+
+// The list, an entry a table.
+pub fn shape_of(table: Table) -> Shape
+    ensures { λ r. ⌜ r ≡ shapeOf table ⌝ }
+{
+    match table {
+        Table::Zones => Shape {
+            place: 0,
+            number: answer::ZONES,
+            width: ZONE_WIDTH,
+            keys: 1,
+            limit: MOST_ZONES,
+        },
+        Table::Owners => Shape {
+            place: 1,
+            number: answer::OWNERS,
+            width: OWNER_WIDTH,
+            keys: 1,
+            limit: MOST_OWNERS,
+        },
+        Table::Units => Shape {
+            place: 2,
+            number: answer::UNITS,
+            width: UNIT_WIDTH,
+            keys: 1,
+            limit: MOST_UNITS,
+        },
+        Table::Accounts => Shape {
+            place: 3,
+            number: answer::ACCOUNTS,
+            width: ACCOUNT_WIDTH,
+            keys: 1,
+            limit: MOST_ACCOUNTS,
+        },
+        Table::Loads => Shape {
+            place: 4,
+            number: answer::LOADS,
+            width: LOAD_WIDTH,
+            keys: 2,
+            limit: MOST_LOADS,
+        },
+        Table::Reservations => Shape {
+            place: 5,
+            number: answer::RESERVATIONS,
+            width: RESERVATION_WIDTH,
+            keys: 1,
+            limit: MOST_RESERVATIONS,
+        },
+    }
+}
+
 pub fn place_of(table: Table) -> usize
     ensures { λ r. ⌜ r ≡ placeOf table ⌝ }
 {
-    match table {
-        Table::Zones => 0,
-        Table::Owners => 1,
-        Table::Units => 2,
-        Table::Accounts => 3,
-        Table::Loads => 4,
-        Table::Reservations => 5,
-    }
+    shape_of(table).place
+}
+
+pub fn number(table: Table) -> u64
+    ensures { λ r. ⌜ r ≡ number table ⌝ }
+{
+    shape_of(table).number
+}
+
+pub fn width(table: Table) -> usize
+    ensures { λ r. ⌜ r ≡ width table ⌝ }
+{
+    shape_of(table).width
+}
+
+pub fn key_columns(table: Table) -> usize
+    ensures { λ r. ⌜ r ≡ keyColumns table ⌝ }
+{
+    shape_of(table).keys
+}
+
+pub fn limit(table: Table) -> usize
+    ensures { λ r. ⌜ r ≡ limit table ⌝ }
+{
+    shape_of(table).limit
 }
 
 // The words of one of the tables.
@@ -135,48 +197,6 @@ pub fn words_of<'a>(tables: [&'a [u64]; TABLES], table: Table) -> &'a [u64]
     ensures { λ r. ⌜ now r ≡ wordsOf (tablesFrom (map now (tables .entry))) table ⌝ }
 {
     tables[place_of(table)]
-}
-
-// How many entries in front are the key by which the rows of a table ascend.
-pub fn key_columns(table: Table) -> usize
-    ensures { λ r. ⌜ r ≡ keyColumns table ⌝ }
-{
-    match table {
-        Table::Zones => 1,
-        Table::Owners => 1,
-        Table::Units => 1,
-        Table::Accounts => 1,
-        Table::Loads => 2,
-        Table::Reservations => 1,
-    }
-}
-
-// How many entries a row of a table has.
-pub fn width(table: Table) -> usize
-    ensures { λ r. ⌜ r ≡ width table ⌝ }
-{
-    match table {
-        Table::Zones => ZONE_WIDTH,
-        Table::Owners => OWNER_WIDTH,
-        Table::Units => UNIT_WIDTH,
-        Table::Accounts => ACCOUNT_WIDTH,
-        Table::Loads => LOAD_WIDTH,
-        Table::Reservations => RESERVATION_WIDTH,
-    }
-}
-
-// How many rows a table may have.
-pub fn limit(table: Table) -> usize
-    ensures { λ r. ⌜ r ≡ limit table ⌝ }
-{
-    match table {
-        Table::Zones => MOST_ZONES,
-        Table::Owners => MOST_OWNERS,
-        Table::Units => MOST_UNITS,
-        Table::Accounts => MOST_ACCOUNTS,
-        Table::Loads => MOST_LOADS,
-        Table::Reservations => MOST_RESERVATIONS,
-    }
 }
 
 // How many whole rows of a table lie in so many words.

@@ -1,8 +1,6 @@
--- `fileform::table::put_key` meets its contract: each key is the table's, and none is longer than 7 bytes.
+-- `fileform::table::put_key` meets its contract: each key is the table's, and none is longer than the room.
 -- Assumes nothing.
-use mathlib.Core.Path.{sym, subst}
 use Rattle.tables.specs.declared.Table.the-variants.{Zones, Owners, Units, Accounts, Loads, Reservations}
-use Rattle.fileform.specs.Steps.{KeyPut}
 use Rattle.fileform.proofs.Tables.{key-put}
 use borrow.Author.Needs.{needs}
 use Rattle.fileform.proofs.table.put_key.Statement.{statement}
@@ -67,60 +65,48 @@ same-length c = search needs
 
 returns : tie.Need-returns
 returns c =
-    let e = c .before .before .before .before .before .before .before .before in
-    let t = c .before .before .put-bytes in
-    subst (λ u. KeyPut u (t .result) (t .last .1 .0)) (sym (c .before .before .before .before .before .enum-told .given .1))
-    (key-put Zones (e .args .out .now) (t .result) (t .last .1 .0) (e .pre) (t .ensures))
+    let told = c .before .before .before .before .before in
+    key-put {table = Zones} (told .enum-told .given .1) (told .before .before .before .pre) (c .before .before .put-bytes .ensures)
 
 same-length-2 : tie.Need-same-length-2
 same-length-2 c = search needs
 
 returns-2 : tie.Need-returns-2
 returns-2 c =
-    let e = c .before .before .before .before .before .before .before .before in
-    let t = c .before .before .put-bytes2 in
-    subst (λ u. KeyPut u (t .result) (t .last .1 .0)) (sym (c .before .before .before .before .before .enum-told2 .given .1))
-    (key-put Owners (e .args .out .now) (t .result) (t .last .1 .0) (e .pre) (t .ensures))
+    let told = c .before .before .before .before .before in
+    key-put {table = Owners} (told .enum-told2 .given .1) (told .before .before .before .pre) (c .before .before .put-bytes2 .ensures)
 
 same-length-3 : tie.Need-same-length-3
 same-length-3 c = search needs
 
 returns-3 : tie.Need-returns-3
 returns-3 c =
-    let e = c .before .before .before .before .before .before .before .before in
-    let t = c .before .before .put-bytes3 in
-    subst (λ u. KeyPut u (t .result) (t .last .1 .0)) (sym (c .before .before .before .before .before .enum-told3 .given .1))
-    (key-put Units (e .args .out .now) (t .result) (t .last .1 .0) (e .pre) (t .ensures))
+    let told = c .before .before .before .before .before in
+    key-put {table = Units} (told .enum-told3 .given .1) (told .before .before .before .pre) (c .before .before .put-bytes3 .ensures)
 
 same-length-4 : tie.Need-same-length-4
 same-length-4 c = search needs
 
 returns-4 : tie.Need-returns-4
 returns-4 c =
-    let e = c .before .before .before .before .before .before .before .before in
-    let t = c .before .before .put-bytes4 in
-    subst (λ u. KeyPut u (t .result) (t .last .1 .0)) (sym (c .before .before .before .before .before .enum-told4 .given .1))
-    (key-put Accounts (e .args .out .now) (t .result) (t .last .1 .0) (e .pre) (t .ensures))
+    let told = c .before .before .before .before .before in
+    key-put {table = Accounts} (told .enum-told4 .given .1) (told .before .before .before .pre) (c .before .before .put-bytes4 .ensures)
 
 same-length-5 : tie.Need-same-length-5
 same-length-5 c = search needs
 
 returns-5 : tie.Need-returns-5
 returns-5 c =
-    let e = c .before .before .before .before .before .before .before .before in
-    let t = c .before .before .put-bytes5 in
-    subst (λ u. KeyPut u (t .result) (t .last .1 .0)) (sym (c .before .before .before .before .before .enum-told5 .given .1))
-    (key-put Loads (e .args .out .now) (t .result) (t .last .1 .0) (e .pre) (t .ensures))
+    let told = c .before .before .before .before .before in
+    key-put {table = Loads} (told .enum-told5 .given .1) (told .before .before .before .pre) (c .before .before .put-bytes5 .ensures)
 
 same-length-6 : tie.Need-same-length-6
 same-length-6 c = search needs
 
 returns-6 : tie.Need-returns-6
 returns-6 c =
-    let e = c .before .before .before .before .before .before .before .before in
-    let t = c .before .before .put-bytes6 in
-    subst (λ u. KeyPut u (t .result) (t .last .1 .0)) (sym (c .before .before .before .before .before .enum-told6 .given .1))
-    (key-put Reservations (e .args .out .now) (t .result) (t .last .1 .0) (e .pre) (t .ensures))
+    let told = c .before .before .before .before .before in
+    key-put {table = Reservations} (told .enum-told6 .given .1) (told .before .before .before .pre) (c .before .before .put-bytes6 .ensures)
 
 pub put-key-spec : {M : Type 1} → statement M
 put-key-spec =

@@ -1,24 +1,27 @@
 -- `fileread::room::judge_room` meets its contract: each table is looked at behind the ones before.
 -- Assumes nothing.
-use mathlib.Core.Path.{_≡_}
-use Prim.Native.Nat.{_-_, _≤_}
-use native.Mathlib.Omega.{arith}
-use Rattle.answer.specs.Turns.{turns}
+use mathlib.Core.Path.{ap, _∙_}
+use Prim.Native.Nat.{_-_}
+use Rattle.lists.specs.Sums.{at}
+use Rattle.answer.specs.Turns.{_then_}
 use Rattle.tables.specs.Shape.{tableCount}
-use Rattle.fileread.proofs.Rooms.{roomAt, rooms-next, rooms-end}
+use Rattle.tables.proofs.Places.{place-told}
+use Rattle.tables.proofs.Passing.{TablesPassed, tables-start, tables-more, tables-end}
+use Rattle.fileread.specs.Calls.{fullSize}
+use Rattle.fileread.specs.Steps.{roomsInTurn}
+use Rattle.fileread.proofs.Rooms.{roomOf}
 use borrow.Author.Needs.{needs}
 use Rattle.fileread.proofs.room.judge_room.Statement.{statement}
 use Rattle.fileread.proofs.room.judge_room.Tie as tie
 
 abbrev Inv-loop : tie.InvT-loop
-Inv-loop lengths answer₀ k₀ answer k = (k ≤ tableCount) × (answer ≡ turns (roomAt lengths) k)
+Inv-loop lengths answer₀ k₀ answer k = TablesPassed (roomOf lengths) answer k
 
 abbrev μ-loop : tie.MeasureT-loop
 μ-loop lengths answer₀ k₀ answer k = tableCount - k
 
 loop-holds : tie.Need-loop-holds Inv-loop μ-loop
-unfolding turns
-loop-holds c = search needs
+loop-holds c = tables-start _
 
 table-at-requires : tie.Need-table-at-requires Inv-loop μ-loop
 table-at-requires c κs = search needs
@@ -40,16 +43,17 @@ loop-less c = search needs
 
 loop-again : tie.Need-loop-again Inv-loop μ-loop
 loop-again c =
-    let l = c .before .before .before in (
-      omega arith,
-      rooms-next (l .before .args .t1) (l .loop .k) (l .loop .answer) (c .room-of .result) (c .before .table-at .result) (l .loop .inv .1)
-          (c .before .table-at .ensures) (c .room-of .ensures),
-    )
+    let l = c .before .before .before in
+    let told = c .before .table-at in
+    let there = c .before .before .loop-test .taken in
+    tables-more (l .loop .inv) (c .room-of .result) (told .result) there (told .ensures)
+    (c .room-of .ensures
+    ∙ ap (λ i. l .loop .answer then fullSize (told .result) (at (l .before .args .t1) i))
+    (place-told (l .loop .k) (told .result) there (told .ensures)))
 
 returns : tie.Need-returns Inv-loop μ-loop
-returns c =
-    let l = c .before in
-    rooms-end (l .before .args .t1) (l .loop .k) (l .loop .answer) (l .loop .inv .0) (c .loop-test .left) (l .loop .inv .1)
+unfolding roomsInTurn
+returns c = tables-end (c .before .loop .inv) (c .loop-test .left)
 
 pub judge-room-spec : {M : Type 1} → statement M
 judge-room-spec =

@@ -1,27 +1,33 @@
 -- `tables::counts::count_tables` meets its contract: each table is counted behind the ones before.
 -- Assumes nothing.
-use mathlib.Core.Path.{_≡_, sym, ap}
-use Prim.Native.Nat.{_-_, _≤_}
-use native.Mathlib.Omega.{arith}
+use mathlib.Core.Path.{sym, ap, _∙_}
+use mathlib.Core.List.{List, map, []}
+use Prim.Native.Nat.{ℕ, _-_}
 use lib.ListN.{length, List·getD-map}
-use borrow.Author.Needs.{needs}
-use mathlib.Core.List.{map, []}
 use denote.Ref.{now}
-use Rattle.answer.specs.Turns.{turns}
-use Rattle.tables.specs.Shape.{tableCount}
-use Rattle.tables.proofs.Counting.{countAt, count-next, count-end}
+use borrow.Author.Needs.{needs}
+use Rattle.answer.specs.declared.Answer.{Answer}
+use Rattle.answer.specs.Turns.{_then_}
+use Rattle.tables.specs.declared.Table.{Table}
+use Rattle.tables.specs.Shape.{tableCount, tablesFrom, wordsOf}
+use Rattle.tables.specs.Counts.{counted, countsInTurn}
+use Rattle.tables.proofs.Places.{words-told}
+use Rattle.tables.proofs.Passing.{TablesPassed, tables-start, tables-more, tables-end}
 use Rattle.tables.proofs.counts.count_tables.Statement.{statement}
 use Rattle.tables.proofs.counts.count_tables.Tie as tie
 
+-- the answer for one of the tables
+abbrev countOf : List (List ℕ) → Table → Answer
+countOf l table = counted table (length (wordsOf (tablesFrom l) table))
+
 abbrev Inv-loop : tie.InvT-loop
-Inv-loop t1 tables answer₀ k₀ answer k = (k ≤ tableCount) × (answer ≡ turns (countAt (map now tables)) k)
+Inv-loop t1 tables answer₀ k₀ answer k = TablesPassed (countOf (map now tables)) answer k
 
 abbrev μ-loop : tie.MeasureT-loop
 μ-loop t1 tables answer₀ k₀ answer k = tableCount - k
 
 loop-holds : tie.Need-loop-holds Inv-loop μ-loop
-unfolding turns
-loop-holds c = search needs
+loop-holds c = tables-start _
 
 mul-words : tie.Need-mul-words Inv-loop μ-loop
 mul-words c = search needs
@@ -44,19 +50,18 @@ loop-less c = search needs
 loop-again : tie.Need-loop-again Inv-loop μ-loop
 loop-again c =
     let l = c .before .before .before .before in
-    let held = map now (l .before .args .t1) in (
-      omega arith,
-      count-next held (l .loop .k) (l .loop .answer) (c .judge-count .result) (c .before .table-at .result) _
-          (l .loop .inv .1)
-          (c .before .table-at .ensures)
-          (ap length (sym (List·getD-map now (l .before .args .t1) (l .loop .k) (record { ptr = (0, 0); name = 0; now = [] }))))
-          (c .judge-count .ensures),
-    )
+    let held = map now (l .before .args .t1) in
+    let told = c .before .table-at in
+    let there = c .before .before .before .loop-test .taken in
+    tables-more (l .loop .inv) (c .judge-count .result) (told .result) there (told .ensures)
+    (c .judge-count .ensures
+    ∙ ap (λ w. l .loop .answer then counted (told .result) (length w))
+    (sym (List·getD-map now (l .before .args .t1) (l .loop .k) (record { ptr = (0, 0); name = 0; now = [] }))
+    ∙ words-told held (l .loop .k) (told .result) there (told .ensures)))
 
 returns : tie.Need-returns Inv-loop μ-loop
-returns c =
-    let l = c .before in
-    count-end (map now (l .before .args .t1)) (l .loop .k) (l .loop .answer) (l .loop .inv .0) (omega (arith, c .loop-test .left)) (l .loop .inv .1)
+unfolding countsInTurn
+returns c = tables-end (c .before .loop .inv) (c .loop-test .left)
 
 pub count-tables-spec : {M : Type 1} → statement M
 count-tables-spec =
