@@ -11,6 +11,7 @@ pub use good::{good, Sizes};
 pub use numbers::Numbers;
 
 use crate::month_file::{write_line, KEYS};
+use crate::settle::unit_month;
 use crate::tables::{Head, Tables, LIMITS, WIDTHS};
 
 /// The paper's case S, whole input.
@@ -40,7 +41,7 @@ pub struct Made {
 pub fn month(seed: u64, index: u64) -> Made {
     let mut numbers = Numbers::from_seed(seed, 0, index);
     let mut made = match numbers.below(10) {
-        0..=2 => aims::aimed(&mut numbers),
+        0..=3 => aims::aimed(&mut numbers),
         _ => {
             let sizes = Sizes::any(&mut numbers);
             good(&mut numbers, &sizes)
@@ -151,6 +152,13 @@ impl Made {
         loads.any(|row| accounts.contains(&row[0]) && row[2] > 0)
             || reservations.any(|row| accounts.contains(&row[0]) && row[1] > row[2])
     }
+}
+
+/// A small annual requirement that comes to nothing in that month, which in December is 0 alone.
+fn annual_of_nothing(numbers: &mut Numbers, month: u64) -> u64 {
+    let twelfth = |annual: u64| unit_month(u128::from(annual), u128::from(month));
+    let annuals: Vec<u64> = (0..12).filter(|&annual| twelfth(annual) == 0).collect();
+    numbers.one_of(&annuals)
 }
 
 /// A row of fewer entries.

@@ -1,7 +1,8 @@
--- Case S and figure B1 of the paper as tables of numbers, computed from the definitions.
+-- Case S and figure B1 of the paper, and figures of zones without requirement, as tables of numbers, computed from the definitions.
 -- Assumes nothing.
 use mathlib.Core.Path.{_≡_, refl}
-use mathlib.Core.List.{[], _∷_}
+use mathlib.Core.List.{List, [], _∷_}
+use Prim.Native.Nat.{ℕ, _^_}
 use Rattle.lists.specs.Sums.{sumTo, sumWhere, largestFirst, every, any}
 use Rattle.lists.specs.Entries.{listed, put}
 use Rattle.answer.specs.Turns.{_then_, accepted, refuse, first, turns}
@@ -17,8 +18,8 @@ use Rattle.rows.specs.Rows as rows
 use Rattle.tables.specs.Shape.{tablesOf}
 use Rattle.tables.specs.Counts as counts
 use Rattle.judgement.specs.Judgement as judgement
-use Rattle.pool.specs.Input.{Input, monthOf}
-use Rattle.pool.specs.Accounts.{contributions, reserved, curtailed, accountUse}
+use Rattle.pool.specs.Input.{Input, monthOf, accountCount}
+use Rattle.pool.specs.Accounts.{contributions, networkUse, energyUse}
 use Rattle.pool.specs.Network as network
 use Rattle.pool.specs.Services as services
 use Rattle.settlement.specs.Settled.{networkInTurn, divisionsInTurn, answerOf, chargeOf, creditOf, chargeWords, creditWords}
@@ -46,6 +47,42 @@ caseB1 =
     []
     (1 ∷ 300 ∷ 0 ∷ 2 ∷ 150 ∷ 50 ∷ 3 ∷ 200 ∷ 0 ∷ 4 ∷ 100 ∷ 0 ∷ []))
 
+-- a month of two zones, with rates of 0 and one owner
+abbrev caseOf : ℕ → ℕ → List ℕ → List ℕ → List ℕ → List ℕ → Input
+caseOf month days units accounts loads reservations =
+    monthOf (record { month = month; days = days; nonzone = 0 }) (tablesOf (1 ∷ 0 ∷ 2 ∷ 0 ∷ []) (1 ∷ 1 ∷ 0 ∷ []) units accounts loads reservations)
+
+-- zone 2 has no unit: account 1 in zone 1 with a load of 10, account 2 in zone 2 with a load of 10 and 120 reserved, account 3 at the
+-- border with 240 reserved
+abbrev caseUnitless : Input
+caseUnitless =
+    caseOf 4 30 (1 ∷ 1 ∷ 1 ∷ 1 ∷ 12000 ∷ 0 ∷ []) (1 ∷ 1 ∷ 1 ∷ 2 ∷ 2 ∷ 2 ∷ 3 ∷ 3 ∷ 0 ∷ []) (1 ∷ 1 ∷ 10 ∷ 2 ∷ 1 ∷ 10 ∷ []) (2 ∷ 120 ∷ 0 ∷ 3 ∷ 240 ∷ 0 ∷ [])
+
+-- zone 1 is idle, and account 2 in zone 2, which has no unit, has a load of 10, or 10 reserved
+abbrev caseIdle : List ℕ → List ℕ → Input
+caseIdle = caseOf 4 30 (1 ∷ 1 ∷ 1 ∷ 1 ∷ 12000 ∷ 0 ∷ []) (1 ∷ 1 ∷ 1 ∷ 2 ∷ 2 ∷ 2 ∷ [])
+
+-- zone 2 has a unit of 1 a year, in a month and its days, and each zone a load of 10
+abbrev caseOneAYear : ℕ → ℕ → Input
+caseOneAYear month days =
+    caseOf month days (1 ∷ 1 ∷ 1 ∷ 1 ∷ 12000 ∷ 0 ∷ 2 ∷ 1 ∷ 2 ∷ 1 ∷ 1 ∷ 0 ∷ []) (1 ∷ 1 ∷ 1 ∷ 2 ∷ 2 ∷ 2 ∷ []) (1 ∷ 1 ∷ 10 ∷ 2 ∷ 1 ∷ 10 ∷ []) []
+
+-- zones 1 and 2 have units of 10^12 a year and a load of 1, zone 3 has no unit and a load of 10^6
+abbrev caseLarge : Input
+caseLarge =
+    monthOf (record { month = 4; days = 30; nonzone = 0 })
+    (tablesOf
+    (1 ∷ 0 ∷ 2 ∷ 0 ∷ 3 ∷ 0 ∷ [])
+    (1 ∷ 1 ∷ 0 ∷ [])
+    (1 ∷ 1 ∷ 1 ∷ 1 ∷ 10 ^ 12 ∷ 0 ∷ 2 ∷ 1 ∷ 2 ∷ 1 ∷ 10 ^ 12 ∷ 0 ∷ [])
+    (1 ∷ 1 ∷ 1 ∷ 2 ∷ 2 ∷ 2 ∷ 3 ∷ 3 ∷ 3 ∷ [])
+    (1 ∷ 1 ∷ 1 ∷ 2 ∷ 1 ∷ 1 ∷ 3 ∷ 1 ∷ 10 ^ 6 ∷ [])
+    [])
+
+-- what a month's accounts are charged for black start
+abbrev charged : Input → List ℕ
+charged m = listed (accountCount m) (services.serviceCharge m blackStart)
+
 record Figures : Type 0 where
   S-charges : chargeWords caseS (9 ∷ 9 ∷ 9 ∷ 9 ∷ 9 ∷ 9 ∷ 9 ∷ []) ≡ (2000 ∷ 500 ∷ 0 ∷ 0 ∷ 500 ∷ 0 ∷ 9 ∷ [])
   S-credits : creditWords caseS (9 ∷ 9 ∷ 9 ∷ 9 ∷ 9 ∷ 9 ∷ 9 ∷ 9 ∷ []) ≡ (1333 ∷ 0 ∷ 0 ∷ 0 ∷ 667 ∷ 0 ∷ 1000 ∷ 0 ∷ [])
@@ -56,9 +93,21 @@ record Figures : Type 0 where
   B1-answer : answerOf caseB1 12 4 ≡ accepted
   B1-splits : listed 2 (service.zoneSide (services.serviceIn caseB1 blackStart)) ≡ (857 ∷ 429 ∷ [])
   B1-nonzone : listed 2 (service.nonzoneSide (services.serviceIn caseB1 reactive)) ≡ (143 ∷ 71 ∷ [])
+  unitless-answer : answerOf caseUnitless 9 4 ≡ accepted
+  unitless-uses : service.bothUses (services.serviceIn caseUnitless blackStart) ≡ (360 ∷ 480 ∷ [])
+  unitless-sides : service.zoneSide (services.serviceIn caseUnitless blackStart) 0 ∷ service.nonzonePot (services.serviceIn caseUnitless blackStart) ∷ [] ≡ (429 ∷ 571 ∷ [])
+  unitless-charged : charged caseUnitless ≡ (429 ∷ 286 ∷ 285 ∷ [])
+  idle-answer : answerOf (caseIdle (2 ∷ 1 ∷ 10 ∷ []) []) 6 4 ≡ accepted
+  idle-charged : charged (caseIdle (2 ∷ 1 ∷ 10 ∷ []) []) ≡ (0 ∷ 1000 ∷ [])
+  idle-reserved-answer : answerOf (caseIdle [] (2 ∷ 10 ∷ 0 ∷ [])) 6 4 ≡ record { number = 9; table = 9; row = 4 }
+  one-a-year-April-answer : answerOf (caseOneAYear 4 30) 6 4 ≡ accepted
+  one-a-year-April-charged : charged (caseOneAYear 4 30) ≡ (500 ∷ 500 ∷ [])
+  one-a-year-December-answer : answerOf (caseOneAYear 12 31) 6 4 ≡ accepted
+  one-a-year-December-charged : charged (caseOneAYear 12 31) ≡ (1000 ∷ 1 ∷ [])
+  large-answer : answerOf caseLarge 9 4 ≡ record { number = 8; table = 9; row = 10 }
 
 figures : Figures
-unfolding sumTo sumWhere largestFirst every listed put refuse _then_ first sizeRefusal quotient remainder leftover comesBefore getsCent share shares turns groups.among groups.weightsIn groups.amount groups.amountInAll groups.groupRefusal groups.groupsInTurn service.zoneUse service.nonzoneUse service.bothUses service.zoneSide service.nonzoneSide service.zoneShare service.nonzonePot service.nonzoneParts service.nonzoneShare service.accountCharge turn.splitRefusal turn.shareRefusal turn.nonzoneRefusal turn.zoneTurn turn.serviceInTurn isMonth through twelfth month.useOf month.nearest month.chargeAtRate any rows.rowNumber rows.notAbove rows.above rows.unknown rows.taken rows.zoneOutside rows.rowOf rows.ownerOutside rows.unitOutside rows.accountOutside rows.loadOutside rows.reservationOutside counts.tablesInTurn counts.counted counts.countsInTurn counts.roomFor judgement.headLooked judgement.rowsJudged judgement.judged contributions reserved curtailed accountUse network.rateOf network.rate network.networkCharge network.chargesIn network.requirements network.networkCredit network.nonzoneCredit network.networkNonzoneRefusal services.unitCredit services.creditIn services.serviceCredit services.zonePot services.zonePart services.nonzonePart services.serviceCharge networkInTurn divisionsInTurn answerOf chargeOf creditOf chargeWords creditWords
+unfolding sumTo sumWhere largestFirst every listed put refuse _then_ first sizeRefusal quotient remainder leftover comesBefore getsCent share shares turns groups.among groups.weightsIn groups.amount groups.amountInAll groups.groupRefusal groups.groupsInTurn service.zoneUse service.nonzoneUse service.bothUses service.zoneSide service.nonzoneSide service.zoneShare service.nonzonePot service.nonzoneParts service.nonzoneShare service.accountCharge turn.splitRefusal turn.shareRefusal turn.nonzoneRefusal turn.zoneTurn turn.serviceInTurn isMonth through twelfth month.useOf month.nearest month.chargeAtRate any rows.rowNumber rows.notAbove rows.above rows.unknown rows.taken rows.zoneOutside rows.rowOf rows.ownerOutside rows.unitOutside rows.accountOutside rows.loadOutside rows.reservationOutside counts.tablesInTurn counts.counted counts.countsInTurn counts.roomFor judgement.headLooked judgement.rowsJudged judgement.judged contributions networkUse energyUse network.rateOf network.rate network.networkCharge network.chargesIn network.requirements network.networkCredit network.nonzoneCredit network.networkNonzoneRefusal services.unitCredit services.creditIn services.serviceCredit services.zoneCredits services.zonePart services.nonzonePart services.serviceCharge networkInTurn divisionsInTurn answerOf chargeOf creditOf chargeWords creditWords
 figures =
     record {
       S-charges = refl;
@@ -70,4 +119,16 @@ figures =
       B1-answer = refl;
       B1-splits = refl;
       B1-nonzone = refl;
+      unitless-answer = refl;
+      unitless-uses = refl;
+      unitless-sides = refl;
+      unitless-charged = refl;
+      idle-answer = refl;
+      idle-charged = refl;
+      idle-reserved-answer = refl;
+      one-a-year-April-answer = refl;
+      one-a-year-April-charged = refl;
+      one-a-year-December-answer = refl;
+      one-a-year-December-charged = refl;
+      large-answer = refl;
     }

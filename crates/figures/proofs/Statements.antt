@@ -21,7 +21,7 @@ use Rattle.text.specs.Numbers.{isDigit, digitsOn, firstNumber, digits, decimal}
 use Rattle.text.specs.Lines.{past, field, fields, line, fieldsText, lineText}
 use Rattle.fileform.specs.Reading as reading
 use Rattle.fileform.specs.Writing.{rowsText}
-use Rattle.pool.specs.Accounts.{contributions, reserved, curtailed, accountUse}
+use Rattle.pool.specs.Accounts.{contributions, networkUse, energyUse}
 use Rattle.pool.specs.Network as network
 use Rattle.pool.specs.Services as services
 use Rattle.settlement.specs.Settled.{networkInTurn, divisionsInTurn, answerOf, chargeOf, creditOf, chargeWords, creditWords}
@@ -35,5 +35,5 @@ abbrev pub caseStatement : List ℕ
 caseStatement = bytes "charge=1,2000,500,0\ncharge=2,0,500,0\ncredit=1,1333,0,0,0\ncredit=2,667,0,1000,0\ntotal=3000,3000\n"
 
 pub case-s : statementOf caseFile ≡ caseStatement
-unfolding sumTo sumWhere largestFirst every listed put refuse _then_ first sizeRefusal quotient remainder leftover comesBefore getsCent share shares turns groups.among groups.weightsIn groups.amount groups.amountInAll groups.groupRefusal groups.groupsInTurn service.zoneUse service.nonzoneUse service.bothUses service.zoneSide service.nonzoneSide service.zoneShare service.nonzonePot service.nonzoneParts service.nonzoneShare service.accountCharge turn.splitRefusal turn.shareRefusal turn.nonzoneRefusal turn.zoneTurn turn.serviceInTurn isMonth through twelfth month.useOf month.nearest month.chargeAtRate any rows.rowNumber rows.notAbove rows.above rows.unknown rows.taken rows.zoneOutside rows.rowOf rows.ownerOutside rows.unitOutside rows.accountOutside rows.loadOutside rows.reservationOutside counts.tablesInTurn counts.counted counts.countsInTurn counts.roomFor judgement.headLooked judgement.rowsJudged judgement.judged contributions reserved curtailed accountUse network.rateOf network.rate network.networkCharge network.chargesIn network.requirements network.networkCredit network.nonzoneCredit network.networkNonzoneRefusal services.unitCredit services.creditIn services.serviceCredit services.zonePot services.zonePart services.nonzonePart services.serviceCharge networkInTurn divisionsInTurn answerOf chargeOf creditOf chargeWords creditWords isDigit digitsOn firstNumber past field fields line digits decimal fieldsText lineText reading.rowLines reading.headLines reading.tableLines reading.rowsInAll reading.ending reading.reading rowsText rowsWith linesText allCharges allCredits statementLines settledAnswer refuseLine settledText statementOf
+unfolding sumTo sumWhere largestFirst every listed put refuse _then_ first sizeRefusal quotient remainder leftover comesBefore getsCent share shares turns groups.among groups.weightsIn groups.amount groups.amountInAll groups.groupRefusal groups.groupsInTurn service.zoneUse service.nonzoneUse service.bothUses service.zoneSide service.nonzoneSide service.zoneShare service.nonzonePot service.nonzoneParts service.nonzoneShare service.accountCharge turn.splitRefusal turn.shareRefusal turn.nonzoneRefusal turn.zoneTurn turn.serviceInTurn isMonth through twelfth month.useOf month.nearest month.chargeAtRate any rows.rowNumber rows.notAbove rows.above rows.unknown rows.taken rows.zoneOutside rows.rowOf rows.ownerOutside rows.unitOutside rows.accountOutside rows.loadOutside rows.reservationOutside counts.tablesInTurn counts.counted counts.countsInTurn counts.roomFor judgement.headLooked judgement.rowsJudged judgement.judged contributions networkUse energyUse network.rateOf network.rate network.networkCharge network.chargesIn network.requirements network.networkCredit network.nonzoneCredit network.networkNonzoneRefusal services.unitCredit services.creditIn services.serviceCredit services.zoneCredits services.zonePart services.nonzonePart services.serviceCharge networkInTurn divisionsInTurn answerOf chargeOf creditOf chargeWords creditWords isDigit digitsOn firstNumber past field fields line digits decimal fieldsText lineText reading.rowLines reading.headLines reading.tableLines reading.rowsInAll reading.ending reading.reading rowsText rowsWith linesText allCharges allCredits statementLines settledAnswer refuseLine settledText statementOf
 case-s = refl

@@ -1,3 +1,4 @@
 mod Filling
 pub mod Crediting
+pub mod Parts
 pub mod Unique

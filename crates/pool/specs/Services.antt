@@ -1,8 +1,7 @@
 -- Black start and reactive: one service, by its number s, over the month.
 -- Assumes nothing.
 use Prim.Native.Nat.{ℕ, _+_}
-use mathlib.Core.Bool.{not}
-use mathlib.Core.List.{List}
+use mathlib.Core.Bool.{cond, not}
 use lib.Dec.{eqb}
 use Rattle.lists.specs.Sums.{sumWhere, when}
 use Rattle.tables.specs.declared.Table.the-variants.{Zones, Accounts}
@@ -21,30 +20,35 @@ use Rattle.month.specs.Months.{twelfth}
 use Rattle.service.specs.Service.{Service}
 use Rattle.service.specs.Service as service
 use Rattle.pool.specs.Input.{Input, unitCount}
-use Rattle.pool.specs.Accounts.{accountUse}
+use Rattle.pool.specs.Accounts.{networkUse, energyUse}
 
--- "Zone use is the use of all accounts outside zone 0; non-zone use is that of zone 0": what account a has of each, by what it uses
-unfoldable pub zonePart : List ℕ → (ℕ → ℕ) → ℕ → ℕ
-zonePart accounts used a = when (not (eqb (accountZone accounts a) 0)) (used a)
+-- "Zone use is the use of all accounts outside zone 0; non-zone use is that of zone 0", except that, for each service, "where a zone has
+-- no unit with a nonzero credit this month", so where the credits of its units add up to 0, "the network part of its accounts' use counts
+-- as non-zone use of that account for this service"; "Reservations delivered in such a zone stay zone use".
+-- What of an account's use, network and energy, is zone use, by its zone's number and the credits of the zone's units ..
+unfoldable pub zonePart : ℕ → ℕ → ℕ → ℕ → ℕ
+zonePart zone credits network energy = cond (eqb zone 0) 0 (when (not (eqb credits 0)) network + energy)
 
-unfoldable pub nonzonePart : List ℕ → (ℕ → ℕ) → ℕ → ℕ
-nonzonePart accounts used a = when (eqb (accountZone accounts a) 0) (used a)
+-- .. and what is non-zone use
+unfoldable pub nonzonePart : ℕ → ℕ → ℕ → ℕ → ℕ
+nonzonePart zone credits network energy = cond (eqb zone 0) (network + energy) (when (eqb credits 0) network)
 
--- a service: each account's zone and its two parts of use, each zone's number and pot
-abbrev pub serviceOver : List ℕ → List ℕ → (ℕ → ℕ) → (ℕ → ℕ) → Service
-serviceOver zones accounts used pot =
+-- a service over a month's tables, by the network part and the energy part of each account's use, and the credits of the units of
+-- the zone with a number: each account's zone and its two parts, each zone's number and its pot
+abbrev pub serviceOver : Tables → (ℕ → ℕ) → (ℕ → ℕ) → (ℕ → ℕ) → Service
+serviceOver t network energy credits =
     record {
-      accounts = rows Accounts accounts;
-      zoneOf = accountZone accounts;
-      zonePart = zonePart accounts used;
-      nonzonePart = nonzonePart accounts used;
-      zones = rows Zones zones;
-      zoneNumber = zoneNumber zones;
-      pot = pot;
+      accounts = rows Accounts (t .accounts);
+      zoneOf = accountZone (t .accounts);
+      zonePart = λ a. zonePart (accountZone (t .accounts) a) (credits (accountZone (t .accounts) a)) (network a) (energy a);
+      nonzonePart = λ a. nonzonePart (accountZone (t .accounts) a) (credits (accountZone (t .accounts) a)) (network a) (energy a);
+      zones = rows Zones (t .zones);
+      zoneNumber = zoneNumber (t .zones);
+      pot = λ z. credits (zoneNumber (t .zones) z);
     }
 
 module _ (m : Input) where
-  open Tables (m .tables) using (zones, owners, units, accounts)
+  open Tables (m .tables) using (zones, owners, units)
 
   -- "A unit's month m: the whole part of annual times m over 12, less .. (m-1) over 12. The reserve credit comes on top"
   unfoldable pub unitCredit : ℕ → ℕ
@@ -59,13 +63,17 @@ module _ (m : Input) where
     unfoldable pub serviceCredit : ℕ → ℕ
     serviceCredit o = sumWhere (unitCount m) (unitOwner units) creditIn (ownerNumber owners o)
 
+    -- "its units' credits": those of the zone with a number
+    unfoldable pub zoneCredits : ℕ → ℕ
+    zoneCredits zone = sumWhere (unitCount m) (unitZone units) creditIn zone
+
     -- "a zone's pot is the sum of its units' credits"
-    unfoldable pub zonePot : ℕ → ℕ
-    zonePot z = sumWhere (unitCount m) (unitZone units) creditIn (zoneNumber zones z)
+    abbrev pub zonePot : ℕ → ℕ
+    zonePot z = zoneCredits (zoneNumber zones z)
 
     -- the service of the month
     abbrev pub serviceIn : Service
-    serviceIn = serviceOver zones accounts (accountUse m) zonePot
+    serviceIn = serviceOver (m .tables) (networkUse m) (energyUse m) zoneCredits
 
     -- what account a is charged for it
     unfoldable pub serviceCharge : ℕ → ℕ

@@ -62,9 +62,10 @@ split-by-uses s z =
     ∙ listed-at (shares (s .pot z) (bothUses s))
 
 module _ (s : Service) (z : ℕ) (fine : splitRefusal s z ≡ 0) where
-  base : total (bothUses s) ≡ 0 → s .pot z ≡ 0
+  -- it has a base
+  pub split-base : total (bothUses s) ≡ 0 → s .pot z ≡ 0
   unfolding splitRefusal
-  base = sized (s .pot z) (total (bothUses s)) fine .has-base
+  split-base = sized (s .pot z) (total (bothUses s)) fine .has-base
 
   -- the two sides are the pot
   pub sides-add-up : zoneSide s z + nonzoneSide s z ≡ s .pot z
@@ -72,13 +73,13 @@ module _ (s : Service) (z : ℕ) (fine : splitRefusal s z ≡ 0) where
   sides-add-up =
       let both : sumTo 2 (at (shares (s .pot z) (bothUses s))) ≡ s .pot z =
       ap (λ n. sumTo n (at (shares (s .pot z) (bothUses s)))) (sym (length-shares (s .pot z) (bothUses s)))
-      ∙ shares-add-up (s .pot z) (bothUses s) base in
+      ∙ shares-add-up (s .pot z) (bothUses s) split-base in
       omega arith
 
   -- no use, no side
   pub no-nonzone-use : nonzoneUse s ≡ 0 → nonzoneSide s z ≡ 0
   unfolding nonzoneSide bothUses
-  no-nonzone-use e = no-weight-no-share (s .pot z) (bothUses s) base 1 (lit< tt) e
+  no-nonzone-use e = no-weight-no-share (s .pot z) (bothUses s) split-base 1 (lit< tt) e
 
   pub zone-side-fits : zoneSide s z ≤ potLimit
   unfolding zoneSide splitRefusal

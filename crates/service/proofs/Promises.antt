@@ -124,15 +124,10 @@ charge-at-the-border s all a b none =
     (groupless-none (zoneSides s) (laws.shares-pass (all .zones-fine)) a b (λ z l. ne-eqb (s .zoneOf a) (s .zoneNumber z) (none z l)))
     ∙ zero-add (nonzoneShare s a)
 
--- "zone 0": where no zone has that number, an account in it has no part in any zone side ..
+-- "zone 0": where no zone has that number, an account in it has no part in any zone side
 pub border-has-no-zone-side : (s : Service) → ServiceFine s → ((z : ℕ) → z < s .zones → s .zoneNumber z ≢ 0)
     → (a : ℕ) → a < s .accounts → s .zoneOf a ≡ 0 → (z : ℕ) → z < s .zones → zoneShare s z a ≡ 0
 border-has-no-zone-side s all named a b e z l = zone-side-to-nobody-else s all z a l b (λ same. named z l (sym same ∙ e))
-
--- .. and where all non-zone use is that of zone 0, an account outside it has no part in the non-zone sides
-pub zone-has-no-nonzone-side : (s : Service) → ServiceFine s → ((a : ℕ) → a < s .accounts → s .zoneOf a ≢ 0 → s .nonzonePart a ≡ 0)
-    → (a : ℕ) → a < s .accounts → s .zoneOf a ≢ 0 → nonzoneShare s a ≡ 0
-zone-has-no-nonzone-side s all parts a b d = nonzone-sides-to-nobody-else s all a b (parts a b d)
 
 -- the paper's words, "divided among that zone's accounts by use": an account's share is what it has where the zone's accounts are
 -- a list of their own, at its place among them ..
@@ -144,7 +139,7 @@ unfolding zoneShare shareRefusal alone
 zone-share-among-its-accounts s all z a b l e =
     amount-alone (zoneSides s) z (laws.shares-pass (all .zones-fine) z b) a l (eq-eqb (s .zoneOf a) (s .zoneNumber z) e)
 
--- .. and likewise the accounts that have a non-zone part, "zone 0's accounts"
+-- .. and likewise the accounts that have a non-zone part
 pub nonzone-share-among-its-accounts : (s : Service) → ServiceFine s → (a : ℕ) → a < s .accounts → 0 < s .nonzonePart a
     → nonzoneShare s a
     ≡ at (shares (nonzonePot s) (kept (s .accounts) (λ b. ltb 0 (s .nonzonePart b)) (s .nonzonePart)))

@@ -59,7 +59,8 @@ zoneShare s z a = amount (zoneSides s) z a
 unfoldable pub nonzonePot : Service → ℕ
 nonzonePot s = sumTo (s .zones) (nonzoneSide s)
 
--- ".. divided among zone 0's accounts by use": by the non-zone part of each account
+-- ".. divided among zone 0's accounts by use" and those that "share in the non-zone pot beside zone 0's": by the non-zone part of each
+-- account, 0 for all others
 unfoldable pub nonzoneParts : Service → List ℕ
 nonzoneParts s = listed (s .accounts) (s .nonzonePart)
 

@@ -9,9 +9,9 @@ use Rattle.pool.specs.Input.{Input}
 use Rattle.services.specs.Settled.{serviceFrom, ServiceSettled}
 
 -- `settle`
-pub service-settled-unique : (m : Input) (used : ℕ → ℕ) (s place : ℕ) (charges charges₁ charges₂ credits credits₁ credits₂ : List ℕ) (r₁ r₂ : Answer)
-    → ServiceSettled m used s place charges charges₁ credits credits₁ r₁
-    → ServiceSettled m used s place charges charges₂ credits credits₂ r₂ → (r₁ ≡ r₂) × (charges₁ ≡ charges₂) × (credits₁ ≡ credits₂)
-service-settled-unique m used s place charges charges₁ charges₂ credits credits₁ credits₂ r₁ r₂ a b =
-    let same = charge-unique (serviceFrom m used s) place charges charges₁ charges₂ r₁ r₂ (a .served) (b .served) in
+pub service-settled-unique : (m : Input) (network energy : ℕ → ℕ) (s place : ℕ) (charges charges₁ charges₂ credits credits₁ credits₂ : List ℕ) (r₁ r₂ : Answer)
+    → ServiceSettled m network energy s place charges charges₁ credits credits₁ r₁
+    → ServiceSettled m network energy s place charges charges₂ credits credits₂ r₂ → (r₁ ≡ r₂) × (charges₁ ≡ charges₂) × (credits₁ ≡ credits₂)
+service-settled-unique m network energy s place charges charges₁ charges₂ credits credits₁ credits₂ r₁ r₂ a b =
+    let same = charge-unique (serviceFrom m network energy s) place charges charges₁ charges₂ r₁ r₂ (a .served) (b .served) in
     (same .0, same .1, a .credited ∙ sym (b .credited))

@@ -16,7 +16,7 @@ use Rattle.tables.specs.declared.Table.the-variants.{Zones, Units, Accounts}
 use Rattle.tables.specs.Shape.{limit, rows, Tables}
 use Rattle.tables.specs.Columns.{unitRequirement, unitReserve}
 use Rattle.pool.specs.Input.{Input, monthOf, zoneCount, ownerCount, unitCount}
-use Rattle.pool.specs.Services.{serviceOver, zonePot, serviceCredit}
+use Rattle.pool.specs.Services.{serviceOver, zoneCredits, serviceCredit}
 use Rattle.pool.specs.Filled.{mostUse}
 
 -- a month by its number and its tables alone, which is all that credits and pots come from
@@ -36,17 +36,18 @@ pub record Creditable (m : Input) : Type 0 where
   pub requirement-within : (u : ℕ) → u < unitCount m → unitRequirement (m .tables .units) u ≤ mostAnnual
   pub reserve-within : (u : ℕ) → u < unitCount m → unitReserve (m .tables .units) u ≤ mostReserve
 
--- accounts whose use can be added up
-pub record Usable (t : Tables) (uses : List ℕ) : Type 0 where
+-- accounts whose use, in its network part and its energy part, can be added up
+pub record Usable (t : Tables) (networks energies : List ℕ) : Type 0 where
   pub few : rows Accounts (t .accounts) ≤ limit Accounts
-  pub long : rows Accounts (t .accounts) ≤ length uses
-  pub within : (a : ℕ) → a < rows Accounts (t .accounts) → at uses a ≤ mostUse
+  pub networks-long : rows Accounts (t .accounts) ≤ length networks
+  pub energies-long : rows Accounts (t .accounts) ≤ length energies
+  pub within : (a : ℕ) → a < rows Accounts (t .accounts) → at networks a + at energies a ≤ mostUse
 
--- the service of a month, from what each account uses
-abbrev pub serviceFrom : Input → (ℕ → ℕ) → ℕ → Service
-serviceFrom m used s = serviceOver (m .tables .zones) (m .tables .accounts) used (zonePot m s)
+-- the service of a month, from the network part and the energy part of each account's use
+abbrev pub serviceFrom : Input → (ℕ → ℕ) → (ℕ → ℕ) → ℕ → Service
+serviceFrom m network energy s = serviceOver (m .tables) network energy (zoneCredits m s)
 
 -- each account is charged where no division refuses, and each owner credited in any case
-pub record ServiceSettled (m : Input) (used : ℕ → ℕ) (s place : ℕ) (charges chargesAfter credits creditsAfter : List ℕ) (r : Answer) : Type 0 where
-  pub served : Served (serviceFrom m used s) place charges chargesAfter r
+pub record ServiceSettled (m : Input) (network energy : ℕ → ℕ) (s place : ℕ) (charges chargesAfter credits creditsAfter : List ℕ) (r : Answer) : Type 0 where
+  pub served : Served (serviceFrom m network energy s) place charges chargesAfter r
   pub credited : creditsAfter ≡ put (ownerCount m) (serviceCredit m s) credits

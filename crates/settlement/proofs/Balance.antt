@@ -17,7 +17,7 @@ use Rattle.tables.specs.Columns.{zoneNumber, ownerNumber, unitOwner, unitZone, 
 use Rattle.judgement.specs.Good.{Known}
 use Rattle.pool.specs.Input.{Input, zoneCount, ownerCount, unitCount, accountCount}
 use Rattle.pool.specs.Network.{networkCharge, chargesIn}
-use Rattle.pool.specs.Services.{creditIn, serviceCredit, zonePot}
+use Rattle.pool.specs.Services.{creditIn, serviceCredit, zoneCredits, zonePot}
 use Rattle.settlement.specs.Accepted.{GoodInput}
 use Rattle.settlement.proofs.Keys.{row-of, no-row-of}
 use Rattle.settlement.proofs.Ranges.{zones-ascend, owners-ascend}
@@ -44,7 +44,7 @@ module _ (m : Input) (lentCharges lentCredits : ℕ) (good : GoodInput m lentCha
   -- a service's pots, and its credits, are its units' credits
   module _ (s : ℕ) where
     pub pots-are-credits : sumTo (zoneCount m) (zonePot m s) ≡ sumTo (unitCount m) (creditIn m s)
-    unfolding zonePot
+    unfolding zoneCredits
     pots-are-credits =
         by-number (unitCount m) (zoneCount m) (unitZone units) (creditIn m s) (zoneNumber zones)
         ∙ sum-eq (unitCount m) _ (creditIn m s)

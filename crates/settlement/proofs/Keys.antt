@@ -1,15 +1,15 @@
 -- Rows with numbers that strictly ascend: no two rows have one number, so a sum over the rows with a number has one row at most.
 -- Assumes nothing.
 use mathlib.Core.Path.{_≡_, refl, sym, _∙_}
-use mathlib.Core.Logic.{_⊎_, ⊎-elim, _≢_}
-use mathlib.Core.Bool.{true, false}
+use mathlib.Core.Logic.{_⊎_, _↔_, ⊎-elim, _≢_}
+use mathlib.Core.Bool.{Bool, true, false}
 use Prim.Native.Nat.{ℕ, zero, suc, _-_, _*_, _≤_, _<_}
 use native.Mathlib.Nat.{le-step, lt-suc-self, le-of-suc-le}
 use native.Mathlib.Omega.{arith}
 use lib.Dec.{eqb}
 use borrow.Author.Tests.{eq-eqb, ne-eqb, eqb-true}
 use Rattle.lists.specs.Sums.{sumTo, when, sumWhere}
-use Rattle.lists.proofs.Sums.{sum-zero, sum-one}
+use Rattle.lists.proofs.Sums.{sum-zero, sum-one, le-sum, when-true, when-zero, when-eq}
 use Rattle.lists.proofs.Ranks.{true-or-false, lt-or-le}
 use Rattle.month.specs.Limits.{mostLoad}
 
@@ -44,11 +44,25 @@ module _ (n : ℕ) (key : ℕ → ℕ) (up : Ascends n key) where
 pub no-row-of : (n : ℕ) (key : ℕ → ℕ) (x v : ℕ) → ((i : ℕ) → i < n → x ≢ key i) → sumTo n (λ i. when (eqb x (key i)) v) ≡ 0
 no-row-of n key x v none = sum-zero n (λ i. when (eqb x (key i)) v) (λ i b. rw (ne-eqb x (key i) (none i b)))
 
-pub no-entry-of : (n : ℕ) (key f : ℕ → ℕ) (x : ℕ) → ((i : ℕ) → i < n → key i ≢ x) → sumWhere n key f x ≡ 0
-unfolding sumWhere
-no-entry-of n key f x none = sum-zero n (λ i. when (eqb (key i) x) (f i)) (λ i b. rw (ne-eqb (key i) x (none i b)))
+-- a number that is 0 where the test holds
+pub when-none : (t : Bool) (v : ℕ) → (t ≡ true → v ≡ 0) → when t v ≡ 0
+when-none t v none = when-eq t v 0 none ∙ when-zero t 0 refl
 
--- .. and what the rows with a number have is at most what one row can have
+-- the rows with the number x add up to 0 exactly where each of them has 0
+pub none-of : (n : ℕ) (key f : ℕ → ℕ) (x : ℕ) → (sumWhere n key f x ≡ 0) ↔ ((i : ℕ) → i < n → key i ≡ x → f i ≡ 0)
+unfolding sumWhere
+none-of n key f x = (
+  (λ none i b e.
+      let its = when-true (eqb (key i) x) (f i) (eq-eqb (key i) x e) in
+      let least = le-sum n (λ j. when (eqb (key j) x) (f j)) i b in omega (arith, its, least, none)),
+  (λ each. sum-zero n (λ i. when (eqb (key i) x) (f i)) (λ i b. when-none (eqb (key i) x) (f i) (λ t. each i b (eqb-true (key i) x t)))),
+)
+
+-- .. and so where no row has it
+pub no-entry-of : (n : ℕ) (key f : ℕ → ℕ) (x : ℕ) → ((i : ℕ) → i < n → key i ≢ x) → sumWhere n key f x ≡ 0
+no-entry-of n key f x none = none-of n key f x .1 (λ i b e. absurd (none i b e))
+
+-- where rows ascend, what those with a number have is at most what one row can have
 pub one-row-at-most : (n : ℕ) (key f : ℕ → ℕ) (x most : ℕ) → Ascends n key → ((i : ℕ) → i < n → f i ≤ most)
     → sumWhere n key f x ≤ most
 unfolding sumTo sumWhere

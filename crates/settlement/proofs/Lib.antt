@@ -7,6 +7,7 @@ pub mod Days
 pub mod Balance
 pub mod Accepting
 pub mod Parts
+pub mod Before
 pub mod Refusing
 pub mod Written
 pub mod Promises

@@ -2,30 +2,35 @@
 -- services and the tables promise.
 -- Assumes nothing.
 use mathlib.Core.Path.{_≡_, refl, sym, ap, _∙_}
-use mathlib.Core.Logic.{_↔_, _≢_, inl, inr}
-use Prim.Native.Nat.{ℕ, _+_, _<_, _*_, _≤_}
+use mathlib.Core.Logic.{_⊎_, _↔_, _≢_, inl, inr}
+use mathlib.Core.Bool.{true}
+use Prim.Native.Nat.{ℕ, _+_, _-_, _<_, _*_, _≤_}
+use native.Mathlib.Nat.{add-zero, zero-add}
 use native.Mathlib.Omega.{arith}
-use mathlib.Core.List.{List}
-use Rattle.lists.specs.Sums.{sumTo, at, total, sumWhere}
-use Rattle.lists.proofs.Sums.{where-eq}
+use mathlib.Core.List.{List, [], _∷_}
+use Rattle.lists.specs.Sums.{sumTo, at, total, when, sumWhere}
+use Rattle.lists.proofs.Sums.{sum-eq, when-eq, where-eq}
 use Rattle.answer.specs.declared.Answer.{Answer}
 use Rattle.answer.specs.Numbers.{BIG, BASE}
 use Rattle.answer.specs.Turns.{accepted}
 use Rattle.groups.specs.Groups.{weightsIn, amount, groupRefusal}
 use Rattle.groups.proofs.Members.{listed-add-up, listed-none}
 use Rattle.groups.proofs.Laws.{pots-divided, pot-divided, members-have-all, weightless-none-at-all}
-use Rattle.service.specs.Service.{zoneSide, nonzoneSide, nonzonePot, zoneShare, nonzoneShare}
+use Rattle.service.specs.Service.{bothUses, zoneSide, nonzoneSide, zoneSides, nonzonePot, zoneShare, nonzoneShare}
 use Rattle.service.specs.Turn.{splitRefusal, shareRefusal}
 use Rattle.service.specs.Turn as turn
 use Rattle.division.specs.Refused.{FineSize}
+use Rattle.division.specs.Shares.{shares}
 use Rattle.service.proofs.Promises as service
 use Rattle.tables.specs.Shape.{chargeWidth, creditWidth, Tables}
 use Rattle.tables.specs.Columns.{zoneNumber, ownerNumber, ownerZone, ownerRequirement, unitOwner, accountZone, zoneRate, accountNumber, loadAccount, loadDay, loadContribution, reservationAccount, reservationReserved, reservationCurtailed}
 use Rattle.month.specs.Limits.{blackStart, reactive}
+use Rattle.month.specs.Quantities.{useOf}
 use Rattle.pool.specs.Input.{Input, zoneCount, ownerCount, unitCount, accountCount, loadCount, reservationCount}
-use Rattle.pool.specs.Accounts.{contributions, reserved, curtailed, accountUse, contributionOn}
-use Rattle.pool.specs.Network.{chargesIn, networkPots, networkCredit, requirements, nonzoneCredit, networkNonzoneRefusal, rate}
-use Rattle.pool.specs.Services.{creditIn, serviceCredit, zonePot, serviceIn, serviceCharge}
+use Rattle.pool.specs.Accounts.{contributions, reserved, curtailed, accountUse, networkUse, energyUse, contributionOn}
+use Rattle.pool.specs.Network.{networkCharge, chargesIn, networkPots, networkCredit, requirements, nonzoneCredit, networkNonzoneRefusal, rate}
+use Rattle.pool.specs.Services.{creditIn, serviceCredit, zoneCredits, zonePot, serviceIn, serviceCharge}
+use Rattle.pool.proofs.Parts as pool
 use Rattle.settlement.specs.Settled.{answerOf, chargeOf, creditOf, Settled}
 use Rattle.settlement.specs.Columns.{
   chargedNetwork,
@@ -37,7 +42,7 @@ use Rattle.settlement.specs.Columns.{
   creditedReactive,
 }
 use Rattle.settlement.specs.Accepted.{IsService, Accepted}
-use Rattle.settlement.specs.Paid.{amongAccounts, amongOwners, Paid, Credited}
+use Rattle.settlement.specs.Paid.{amongAccounts, amongOwners, WithoutRequirement, isSharer, amongSharers, Parted, Paid, Credited}
 use Rattle.settlement.proofs.Accepting.{zone-exactly, nonzone-exactly, answer-accepted, accepted-answer}
 use Rattle.settlement.proofs.Balance as balance
 use Rattle.settlement.specs.Refused.{Refused, Places}
@@ -46,7 +51,9 @@ use Rattle.settlement.proofs.Written as written
 use Rattle.settlement.proofs.Keys.{no-entry-of}
 use Rattle.settlement.proofs.Days as days
 use Rattle.settlement.proofs.Ranges as ranges
+use Rattle.settlement.specs.Before.{formerService}
 use Rattle.settlement.proofs.Parts as parts
+use Rattle.settlement.proofs.Before as before
 
 module _ (m : Input) (lentCharges lentCredits : ℕ) where
   -- a month is accepted, with 0, 0, 0, exactly where its input is good and every division is fine: no such month is refused
@@ -96,7 +103,7 @@ module _ {m : Input} {charges chargesAfter credits creditsAfter : List ℕ} {r :
   credits-behind-stay = written.behind-credits settled
 
 module _ {m : Input} {lentCharges lentCredits : ℕ} (all : Accepted m lentCharges lentCredits) where
-  open Tables (m .tables) using (zones, owners, units, accounts, loads, reservations)
+  open Tables (m .tables) using (zones, owners, accounts, loads, reservations)
 
   -- an account's rate is its zone's, or the non-zone rate; its energy is that of its own reservation
   pub rate-is-its-zones : (a z : ℕ) → z < zoneCount m → accountZone accounts a ≡ zoneNumber zones z → rate m a ≡ zoneRate zones z
@@ -182,38 +189,56 @@ module _ {m : Input} {lentCharges lentCredits : ℕ} (all : Accepted m lentCharg
     pub split-without-loss : (z : ℕ) → z < zoneCount m → zoneSide (serviceIn m s) z + nonzoneSide (serviceIn m s) z ≡ zonePot m s z
     split-without-loss = service.split-without-loss (serviceIn m s) (all .service-fine s i)
 
-    -- a zone side is fully charged to that zone's accounts, and is all that these are charged
-    pub zone-side-to-its-accounts : (z : ℕ) → z < zoneCount m
+    -- in a zone with a requirement, its side is fully charged to that zone's accounts, and is all that these are charged
+    pub zone-side-to-its-accounts : (z : ℕ) → z < zoneCount m → ¬ WithoutRequirement m s (zoneNumber zones z)
         → sumWhere (accountCount m) (accountZone accounts) (serviceCharge m s) (zoneNumber zones z) ≡ zoneSide (serviceIn m s) z
     unfolding sumWhere
-    zone-side-to-its-accounts z b =
+    zone-side-to-its-accounts z b required =
         where-eq (accountCount m) (accountZone accounts) (serviceCharge m s) (zoneNumber zones z) (zoneShare (serviceIn m s) z)
-        (λ a h e. parts.pays-its-zone-side all s (all .service-fine s i) a z h b e)
+        (λ a h e. parts.pays-its-zone-side all s (all .service-fine s i) a z h b e required)
         ∙ service.zone-side-to-its-accounts (serviceIn m s) (all .service-fine s i) z b
 
-    -- the non-zone sides of all zones are fully charged to zone 0's accounts, and are all that these are charged
-    pub nonzone-sides-to-zone-0 : sumWhere (accountCount m) (accountZone accounts) (serviceCharge m s) 0 ≡ sumTo (zoneCount m) (nonzoneSide (serviceIn m s))
+    -- a zone without requirement has no side ..
+    pub without-requirement-no-sides : (z : ℕ) → z < zoneCount m → WithoutRequirement m s (zoneNumber zones z)
+        → (zoneSide (serviceIn m s) z ≡ 0) × (nonzoneSide (serviceIn m s) z ≡ 0)
+    without-requirement-no-sides = parts.no-sides all s (all .service-fine s i)
+
+    -- .. so an account that has reservations alone there is charged nothing
+    pub reservations-are-free : (a z : ℕ) → a < accountCount m → z < zoneCount m → accountZone accounts a ≡ zoneNumber zones z
+        → WithoutRequirement m s (zoneNumber zones z) → contributions m a ≡ 0 → serviceCharge m s a ≡ 0
+    reservations-are-free = parts.reservations-are-free all s (all .service-fine s i)
+
+    -- the non-zone sides of all zones are fully charged to the accounts of zone 0 and of zones without requirement, and are all that
+    -- these are charged
+    pub nonzone-sides-to-sharers : sumTo (accountCount m) (λ a. when (isSharer m s a) (serviceCharge m s a)) ≡ sumTo (zoneCount m) (nonzoneSide (serviceIn m s))
     unfolding nonzonePot
-    nonzone-sides-to-zone-0 =
-        where-eq (accountCount m) (accountZone accounts) (serviceCharge m s) 0 (nonzoneShare (serviceIn m s))
-        (parts.pays-the-nonzone-pot all s (all .service-fine s i))
-        ∙ parts.nonzone-pot-to-zone-0 all s (all .service-fine s i)
+    nonzone-sides-to-sharers =
+        sum-eq (accountCount m) (λ a. when (isSharer m s a) (serviceCharge m s a)) (λ a. when (isSharer m s a) (nonzoneShare (serviceIn m s) a))
+        (λ a b. when-eq (isSharer m s a) (serviceCharge m s a) (nonzoneShare (serviceIn m s) a) (parts.pays-the-nonzone-pot all s (all .service-fine s i) a b))
+        ∙ parts.nonzone-pot-to-sharers all s (all .service-fine s i)
 
     -- an account that uses nothing is charged nothing
     pub idle-account-is-free : (a : ℕ) → a < accountCount m → accountUse m a ≡ 0 → serviceCharge m s a ≡ 0
     unfolding serviceCharge
     idle-account-is-free a b e =
-        service.idle-account-is-free (serviceIn m s) (all .service-fine s i) a b (parts.idle-parts m a e .0) (parts.idle-parts m a e .1)
+        let none = parts.parts-are-use m s a in
+        service.idle-account-is-free (serviceIn m s) (all .service-fine s i) a b (omega (arith, none)) (omega (arith, none))
 
-    -- the paper's words, "divided among that zone's accounts by use": the zone's accounts as a list of their own ..
+    -- the paper's words, "divided among that zone's accounts by use", where the zone has a requirement: its accounts as a list of
+    -- their own ..
     pub charge-among-zone-accounts : (a z : ℕ) → a < accountCount m → z < zoneCount m → accountZone accounts a ≡ zoneNumber zones z
-        → serviceCharge m s a ≡ amongAccounts m (zoneSide (serviceIn m s) z) (zoneNumber zones z) a
-    charge-among-zone-accounts a z b h e = parts.paid all a b .for-service s i .in-a-zone z h e
+        → ¬ WithoutRequirement m s (zoneNumber zones z) → serviceCharge m s a ≡ amongAccounts m (zoneSide (serviceIn m s) z) (zoneNumber zones z) a
+    charge-among-zone-accounts a z b h e required = parts.paid all a b .for-service s i .with-requirement z h e required
 
-    -- .. and "divided among zone 0's accounts by use"
-    pub charge-among-zone-0-accounts : (a : ℕ) → a < accountCount m → accountZone accounts a ≡ 0
-        → serviceCharge m s a ≡ amongAccounts m (nonzonePot (serviceIn m s)) 0 a
-    charge-among-zone-0-accounts a b e = parts.paid all a b .for-service s i .in-zone-0 e
+    -- .. and "those accounts share in the non-zone pot beside zone 0's": those who share as a list of their own
+    pub charge-among-sharers : (a : ℕ) → a < accountCount m → (accountZone accounts a ≡ 0) ⊎ WithoutRequirement m s (accountZone accounts a)
+        → serviceCharge m s a ≡ amongSharers m s (nonzonePot (serviceIn m s)) a
+    charge-among-sharers a b who = parts.sharer-paid all s (all .service-fine s i) a b (parts.sharer-exactly m s a .1 who)
+
+    -- every account is one of the two: it shares in the non-zone pot, or its zone has a row and a requirement
+    pub charged-one-way : (a : ℕ) → a < accountCount m
+        → (isSharer m s a ≡ true) ⊎ ((z : ℕ) × (z < zoneCount m) × (accountZone accounts a ≡ zoneNumber zones z) × ¬ WithoutRequirement m s (zoneNumber zones z))
+    charged-one-way = parts.one-or-the-other all s (all .service-fine s i)
 
   -- "divided among its owners by requirement": the zone's owners as a list of their own
   pub credit-among-zone-owners : (o z : ℕ) → o < ownerCount m → z < zoneCount m → ownerZone owners o ≡ zoneNumber zones z
@@ -227,10 +252,26 @@ module _ {m : Input} {lentCharges lentCredits : ℕ} (all : Accepted m lentCharg
   pub owner-is-credited : (o : ℕ) → o < ownerCount m → Credited m o
   owner-is-credited = parts.credited all
 
--- the balance of an accepted month in the words that were written: nothing is spoken of but these and the month's tables
+-- the words that were written for an accepted month
 module _ {m : Input} {charges chargesAfter credits creditsAfter : List ℕ} {r : Answer} (settled : Settled m charges chargesAfter credits creditsAfter r)
     (fine : r .number ≡ 0) where
   open Tables (m .tables) using (zones, owners, accounts)
+
+  -- by their names they are what each account is charged and each owner credited
+  pub written-charges : (a : ℕ) → a < accountCount m
+      → (chargedNetwork chargesAfter a ≡ networkCharge m a) × (chargedBlackStart chargesAfter a ≡ serviceCharge m blackStart a) × (chargedReactive chargesAfter a ≡ serviceCharge m reactive a)
+  unfolding chargeOf
+  written-charges a b =
+      let word = written.charge-word settled fine in (word 0 a (omega arith) b, word 1 a (omega arith) b, word 2 a (omega arith) b)
+
+  pub written-credits : (o : ℕ) → o < ownerCount m
+      → (creditedNetwork creditsAfter o ≡ networkCredit m o) × (creditedNonzone creditsAfter o ≡ nonzoneCredit m o)
+      × (creditedBlackStart creditsAfter o ≡ serviceCredit m blackStart o) × (creditedReactive creditsAfter o ≡ serviceCredit m reactive o)
+  unfolding creditOf
+  written-credits o b =
+      let word = written.credit-word settled fine in (word 0 o (omega arith) b, word 1 o (omega arith) b, word 2 o (omega arith) b, word 3 o (omega arith) b)
+
+  -- their balance, in which nothing is spoken of but these words and the month's tables
 
   -- in each zone the network charges of the accounts whose zone has its number add up to the network credits of the owners whose zone has it
   pub written-zone-charges-are-credits : (z : ℕ) → z < zoneCount m
@@ -272,6 +313,50 @@ module _ {m : Input} {charges chargesAfter credits creditsAfter : List ℕ} {r :
   pub all-written-charges-are-credits : sumTo (accountCount m * chargeWidth) (at chargesAfter) ≡ sumTo (ownerCount m * creditWidth) (at creditsAfter)
   all-written-charges-are-credits =
       written.all-charges settled fine ∙ all-charges-are-credits (written.all settled fine) ∙ sym (written.all-credits settled fine)
+
+-- the network part of an account's use is 24 times its contributions, its energy part reserved less curtailed; they add up to its use
+pub network-and-energy : (m : Input) (a : ℕ)
+    → (networkUse m a ≡ 24 * contributions m a) × (energyUse m a ≡ reserved m a - curtailed m a) × (networkUse m a + energyUse m a ≡ accountUse m a)
+unfolding networkUse energyUse reserved curtailed useOf
+network-and-energy m a = (add-zero (24 * contributions m a), zero-add (reserved m a - curtailed m a), pool.network-and-energy-add-up m a)
+
+-- a zone has no requirement of a service, no unit of it having a nonzero credit, exactly where the credits of its units add up to 0
+pub without-requirement-exactly : (m : Input) (s zone : ℕ) → (zoneCredits m s zone ≡ 0) ↔ WithoutRequirement m s zone
+without-requirement-exactly = parts.requirement-exactly
+
+-- what of an account's use is zone use and what is non-zone use; the two parts add up to its use
+pub use-is-parted : (m : Input) (s a : ℕ) → Parted m s a
+use-is-parted = parts.parted
+
+pub parts-add-up : (m : Input) (s a : ℕ) → serviceIn m s .zonePart a + serviceIn m s .nonzonePart a ≡ accountUse m a
+parts-add-up = parts.parts-are-use
+
+-- a zone's pot is divided in two by all zone parts and all non-zone parts, which add up to the use of all accounts, whatever the service
+pub split-by-uses : (m : Input) (s z : ℕ)
+    → (zoneSide (serviceIn m s) z ∷ nonzoneSide (serviceIn m s) z ∷ [])
+    ≡ shares (zonePot m s z) (sumTo (accountCount m) (serviceIn m s .zonePart) ∷ sumTo (accountCount m) (serviceIn m s .nonzonePart) ∷ [])
+split-by-uses m s = service.split-by-uses (serviceIn m s)
+
+pub all-use-is-parted : (m : Input) (s : ℕ) → total (bothUses (serviceIn m s)) ≡ sumTo (accountCount m) (accountUse m)
+all-use-is-parted = before.all-use
+
+-- the accounts that share in the non-zone pot are those of zone 0 and of zones without requirement
+pub sharers-exactly : (m : Input) (s a : ℕ) → (isSharer m s a ≡ true) ↔ ((accountZone (m .tables .accounts) a ≡ 0) ⊎ WithoutRequirement m s (accountZone (m .tables .accounts) a))
+sharers-exactly = parts.sharer-exactly
+
+-- "BASE as before", by the uses outside zone 0 and in it: a split is refused as it was, and of a zone's share, where its split is fine,
+-- no BASE is new. A zone with a requirement divides its side by the same use as before
+pub split-refused-as-before : (m : Input) (s z : ℕ) → splitRefusal (serviceIn m s) z ≡ splitRefusal (formerService m s) z
+split-refused-as-before = before.same-split
+
+pub share-base-as-before : (m : Input) (s z : ℕ) → zoneNumber (m .tables .zones) z ≢ 0 → splitRefusal (serviceIn m s) z ≡ 0
+    → shareRefusal (serviceIn m s) z ≡ BASE → shareRefusal (formerService m s) z ≡ BASE
+share-base-as-before = before.same-base
+
+pub zone-weights-are-use : (m : Input) (s z : ℕ) → zoneNumber (m .tables .zones) z ≢ 0 → ¬ WithoutRequirement m s (zoneNumber (m .tables .zones) z)
+    → total (weightsIn (zoneSides (serviceIn m s)) z)
+    ≡ sumWhere (accountCount m) (accountZone (m .tables .accounts)) (accountUse m) (zoneNumber (m .tables .zones) z)
+zone-weights-are-use = before.weights-are-use
 
 -- "A missing load day is zero"
 pub missing-day-is-zero : (m : Input) (a day : ℕ)

@@ -1,7 +1,7 @@
 -- From the parts to the month: what the parts say of the columns that are lent to them is what the paper says of the month.
 -- Assumes nothing.
 use mathlib.Core.Path.{_≡_, refl, sym, ap, ap₂, _∙_, subst}
-use mathlib.Core.Bool.{true, false, cond, not}
+use mathlib.Core.Bool.{true, false, cond}
 use mathlib.Core.List.{List}
 use Prim.Native.Nat.{ℕ, zero, suc, _+_, _*_, _≤_, _<_}
 use native.Mathlib.Nat.{le-trans, le-of-eq, lt-of-le-of-lt, zero-add}
@@ -9,7 +9,7 @@ use native.Mathlib.Omega.{arith}
 use lib.Dec.{eqb}
 use lib.ListN.{length}
 use borrow.Author.Tests.{eq-eqb}
-use Rattle.lists.specs.Sums.{at, total, when}
+use Rattle.lists.specs.Sums.{at, total}
 use Rattle.lists.specs.Entries.{listed, put}
 use Rattle.lists.proofs.Sums.{sum-at-most, where-eq}
 use Rattle.lists.proofs.Entries.{length-listed, length-put, put-eq, put-long, at-put}
@@ -30,12 +30,13 @@ use Rattle.month.specs.Limits.{blackStart, reactive}
 use Rattle.columns.specs.Blocks.{columnAt, columnsFrom, withColumns, Zeros}
 use Rattle.columns.proofs.Blocks.{column-zeros, columns-long, part-column, ColumnsLent, columns-lent, ColumnLent, column-lent}
 use Rattle.pool.specs.Input.{Input, zoneCount, ownerCount, accountCount}
-use Rattle.pool.specs.Accounts.{contributions, reserved, curtailed, accountUse}
+use Rattle.pool.specs.Accounts.{contributions, networkUse, energyUse}
 use Rattle.pool.specs.Network.{rate, networkCharge, chargesIn, potsAmongOwners, networkPots, networkCredit, requirements, nonzoneCredit, networkNonzoneRefusal}
-use Rattle.pool.specs.Services.{unitCredit, creditIn, serviceCredit, zonePot, zonePart, nonzonePart, serviceIn, serviceCharge}
+use Rattle.pool.specs.Services.{unitCredit, creditIn, serviceCredit, zoneCredits, zonePart, nonzonePart, serviceIn, serviceCharge}
 use Rattle.pool.specs.Filled.{accountsInput, mostCharge, AccountsFilled}
 use Rattle.pool.specs.Divided.{chargesFrom, Divisible, CreditColumns, NetworkCredited}
 use Rattle.pool.proofs.Crediting.{credited-all}
+use Rattle.pool.proofs.Parts.{network-and-energy-add-up}
 use Rattle.services.specs.Settled.{unitsInput, Creditable, serviceFrom, Usable, ServiceSettled}
 use Rattle.settlement.specs.Holds.{Holds}
 use Rattle.settlement.specs.Settled.{blackStartPlace, reactivePlace, networkInTurn, divisionsInTurn, chargeOf, creditOf}
@@ -57,6 +58,11 @@ pub record Whole (accounts owners : List ℕ) : Type 0 where
 pub first-long : {accounts owners : List ℕ} → Whole accounts owners → length (columnAt (limit Accounts) 0 accounts) ≡ limit Accounts
 first-long {accounts} whole = columns-long (limit Accounts) 0 accounts 1 (omega (arith, whole .for-accounts))
 
+-- two columns with the network part and the energy part of each account's use
+pub record UsesHeld (m : Input) (networks energies : List ℕ) : Type 0 where
+  pub network-held : Holds (accountCount m) (networkUse m) networks
+  pub energy-held : Holds (accountCount m) (energyUse m) energies
+
 -- a column that is another holds the same
 carried : {n : ℕ} {f : ℕ → ℕ} {column other : List ℕ} → column ≡ other → Holds n f other → Holds n f column
 carried {n} {f} e = subst (Holds n f) (sym e)
@@ -75,14 +81,19 @@ module _ (m : Input) where
   forUnits = unitsInput (m .month) (m .tables)
 
   -- the columns of the accounts
-  module _ {network networkAfter uses usesAfter : List ℕ} (filled : AccountsFilled forAccounts network networkAfter uses usesAfter) where
-    holds-charges : accountCount m ≤ length network → Holds (accountCount m) (networkCharge m) networkAfter
+  module _ {charges chargesAfter networks networksAfter energies energiesAfter : List ℕ}
+      (filled : AccountsFilled forAccounts charges chargesAfter networks networksAfter energies energiesAfter) where
+    holds-charges : accountCount m ≤ length charges → Holds (accountCount m) (networkCharge m) chargesAfter
     unfolding networkCharge contributions rate
-    holds-charges long = holds (accountCount m) (networkCharge forAccounts) network networkAfter (filled .charged) long
+    holds-charges long = holds (accountCount m) (networkCharge forAccounts) charges chargesAfter (filled .charged) long
 
-    holds-uses : accountCount m ≤ length uses → Holds (accountCount m) (accountUse m) usesAfter
-    unfolding accountUse contributions reserved curtailed
-    holds-uses long = holds (accountCount m) (accountUse forAccounts) uses usesAfter (filled .used) long
+    holds-uses : accountCount m ≤ length networks → accountCount m ≤ length energies → UsesHeld m networksAfter energiesAfter
+    unfolding networkUse energyUse contributions
+    holds-uses long long₂ =
+        record {
+          network-held = holds (accountCount m) (networkUse forAccounts) networks networksAfter (filled .network-used) long;
+          energy-held = holds (accountCount m) (energyUse forAccounts) energies energiesAfter (filled .energy-used) long₂;
+        }
 
   module _ {network : List ℕ} (charges : Holds (accountCount m) (networkCharge m) network) where
     can-divide : Settleable m → Divisible (m .tables) network
@@ -143,30 +154,32 @@ module _ (m : Input) where
           long
 
   -- a service
-  module _ {uses : List ℕ} (used : Holds (accountCount m) (accountUse m) uses) where
-    can-use : Settleable m → Usable (m .tables) uses
+  module _ {networks energies : List ℕ} (used : UsesHeld m networks energies) where
+    can-use : Settleable m → Usable (m .tables) networks energies
     can-use can =
         record {
           few = can .fillable .few;
-          long = used .long;
-          within = λ a b. le-trans (le-of-eq (used .words a b)) (can .use-within a);
+          networks-long = used .network-held .long;
+          energies-long = used .energy-held .long;
+          within = λ a b.
+              le-trans (le-of-eq (ap₂ _+_ (used .network-held .words a b) (used .energy-held .words a b) ∙ network-and-energy-add-up m a)) (can .use-within a);
         }
 
-    same-service : (s : ℕ) → services.Same (serviceFrom forUnits (at uses) s) (serviceIn m s)
-    unfolding zonePart nonzonePart zonePot creditIn unitCredit
+    same-service : (s : ℕ) → services.Same (serviceFrom forUnits (at networks) (at energies) s) (serviceIn m s)
+    unfolding zoneCredits creditIn unitCredit
     same-service s =
         record {
           same-accounts = refl;
           same-zone = λ a b. refl;
-          same-zone-part = λ a b. ap (when (not (eqb (accountZone accounts a) 0))) (used .words a b);
-          same-nonzone-part = λ a b. ap (when (eqb (accountZone accounts a) 0)) (used .words a b);
+          same-zone-part = λ a b. ap₂ (zonePart (accountZone accounts a) _) (used .network-held .words a b) (used .energy-held .words a b);
+          same-nonzone-part = λ a b. ap₂ (nonzonePart (accountZone accounts a) _) (used .network-held .words a b) (used .energy-held .words a b);
           same-zones = refl;
           same-number = λ z b. refl;
           same-pot = λ z b. refl;
         }
 
     module _ (s place : ℕ) {charges chargesAfter credits creditsAfter : List ℕ} {r : Answer}
-        (settled : ServiceSettled forUnits (at uses) s place charges chargesAfter credits creditsAfter r) where
+        (settled : ServiceSettled forUnits (at networks) (at energies) s place charges chargesAfter credits creditsAfter r) where
       served : Served (serviceIn m s) place charges chargesAfter r
       served = services.same-served (same-service s) place charges chargesAfter r (settled .served)
 
@@ -211,17 +224,18 @@ module _ (m : Input) where
         le-trans (can .few-owners) (le-of-eq (sym (columns-long (limit Owners) c ownerBlock 1 (omega (arith, whole .for-owners, h)))))
 
     -- the network charges, lent as the first column of the accounts
-    module _ {network uses usesAfter : List ℕ} (filled : AccountsFilled forAccounts (columnAt (limit Accounts) 0 accountBlock) network uses usesAfter) where
-      network-lent : ColumnLent (limit Accounts) 0 accountBlock network (withColumns (limit Accounts) 0 1 network accountBlock)
+    module _ {charges networks networksAfter energies energiesAfter : List ℕ}
+        (filled : AccountsFilled forAccounts (columnAt (limit Accounts) 0 accountBlock) charges networks networksAfter energies energiesAfter) where
+      network-lent : ColumnLent (limit Accounts) 0 accountBlock charges (withColumns (limit Accounts) 0 1 charges accountBlock)
       network-lent =
-          column-lent (limit Accounts) 0 accountBlock (omega (arith, whole .for-accounts)) network
+          column-lent (limit Accounts) 0 accountBlock (omega (arith, whole .for-accounts)) charges
           (put-long (accountCount m) (networkCharge forAccounts) (columnAt (limit Accounts) 0 accountBlock) (filled .charged)
           ∙ columns-long (limit Accounts) 0 accountBlock 1 (omega (arith, whole .for-accounts)))
 
-      filled-whole : Whole (withColumns (limit Accounts) 0 1 network accountBlock) ownerBlock
+      filled-whole : Whole (withColumns (limit Accounts) 0 1 charges accountBlock) ownerBlock
       filled-whole = record { for-accounts = network-lent .long ∙ whole .for-accounts; for-owners = whole .for-owners }
 
-      charged : Holds (accountCount m) (networkCharge m) (columnAt (limit Accounts) 0 (withColumns (limit Accounts) 0 1 network accountBlock))
+      charged : Holds (accountCount m) (networkCharge m) (columnAt (limit Accounts) 0 (withColumns (limit Accounts) 0 1 charges accountBlock))
       charged = carried (network-lent .its) (holds-charges filled (account-column 0 (omega arith)))
 
     -- the network credits, lent as the first two columns of the owners, the second of zeros
@@ -262,8 +276,8 @@ module _ (m : Input) where
           carried (network-credits-lent .inside 1 (omega arith)) (holds-nonzone-credits charges divided fine (part-room 1 (omega arith)))
 
     -- a service, lent column c of the accounts and column d of the owners
-    module _ {uses : List ℕ} (used : Holds (accountCount m) (accountUse m) uses) (c d : ℕ) (h : c < chargeWidth) (k : d < creditWidth) {s place : ℕ} {charges credits : List ℕ} {r : Answer}
-        (settled : ServiceSettled forUnits (at uses) s place (columnAt (limit Accounts) c accountBlock) charges (columnAt (limit Owners) d ownerBlock) credits r) where
+    module _ {networks energies : List ℕ} (used : UsesHeld m networks energies) (c d : ℕ) (h : c < chargeWidth) (k : d < creditWidth) {s place : ℕ} {charges credits : List ℕ} {r : Answer}
+        (settled : ServiceSettled forUnits (at networks) (at energies) s place (columnAt (limit Accounts) c accountBlock) charges (columnAt (limit Owners) d ownerBlock) credits r) where
       service-charges-lent : ColumnLent (limit Accounts) c accountBlock charges (withColumns (limit Accounts) c 1 charges accountBlock)
       service-charges-lent = charges-lent used s place settled c accountBlock refl (omega (arith, whole .for-accounts, h))
 
@@ -280,21 +294,22 @@ module _ (m : Input) where
       credits-of-service : Holds (ownerCount m) (serviceCredit m s) (columnAt (limit Owners) d (withColumns (limit Owners) d 1 credits ownerBlock))
       credits-of-service = carried (service-credits-lent .its) (holds-service-credits used s place settled (owner-column d k))
 
--- A month that can be settled, with two new blocks, of which the accounts' first column and a column of uses are filled.
-pub record Begun (m : Input) (accounts₀ owners₀ network uses usesAfter : List ℕ) : Type 0 where
+-- A month that can be settled, with two new blocks, of which the accounts' first column is filled, and two columns with the parts of
+-- the accounts' use, which were lent with a word for each account that there may be.
+pub record Begun (m : Input) (accounts₀ owners₀ charges lent networks energies : List ℕ) : Type 0 where
   pub can : Settleable m
   pub new : Working accounts₀ owners₀
-  pub filled : AccountsFilled (accountsInput (m .nonzone) (m .tables)) (columnAt (limit Accounts) 0 accounts₀) network uses usesAfter
-  pub room : accountCount m ≤ length uses
+  pub filled : AccountsFilled (accountsInput (m .nonzone) (m .tables)) (columnAt (limit Accounts) 0 accounts₀) charges lent networks lent energies
+  pub room : accountCount m ≤ length lent
 
 -- new blocks are whole
 pub new-whole : {accounts₀ owners₀ : List ℕ} → Working accounts₀ owners₀ → Whole accounts₀ owners₀
 new-whole new = record { for-accounts = new .for-accounts; for-owners = new .for-owners }
 
 -- The calls in turn, from there ..
-module _ {m : Input} {accounts₀ owners₀ network uses usesAfter : List ℕ} (b : Begun m accounts₀ owners₀ network uses usesAfter) where
+module _ {m : Input} {accounts₀ owners₀ charges lent networks energies : List ℕ} (b : Begun m accounts₀ owners₀ charges lent networks energies) where
   abbrev accounts₁ : List ℕ
-  accounts₁ = withColumns (limit Accounts) 0 1 network accounts₀
+  accounts₁ = withColumns (limit Accounts) 0 1 charges accounts₀
 
   pub whole₁ : Whole accounts₁ owners₀
   whole₁ = filled-whole m (b .can) (new-whole (b .new)) (b .filled)
@@ -302,15 +317,15 @@ module _ {m : Input} {accounts₀ owners₀ network uses usesAfter : List ℕ} (
   network-charges : Holds (accountCount m) (networkCharge m) (columnAt (limit Accounts) 0 accounts₁)
   network-charges = charged m (b .can) (new-whole (b .new)) (b .filled)
 
-  used : Holds (accountCount m) (accountUse m) usesAfter
-  used = holds-uses m (b .filled) (b .room)
+  used : UsesHeld m networks energies
+  used = holds-uses m (b .filled) (b .room) (b .room)
 
   pub divisible : Divisible (m .tables) (columnAt (limit Accounts) 0 accounts₁) × CreditColumns (columnsFrom (limit Owners) 0 2 owners₀)
   divisible = (can-divide m network-charges (b .can), credit-columns m (b .can) whole₁ (b .new .new))
 
   -- what a service asks for, with two columns of whole blocks
   pub servable : {accountBlock ownerBlock : List ℕ} → Whole accountBlock ownerBlock → (c d : ℕ) → c < chargeWidth → d < creditWidth
-      → (Creditable (unitsInput (m .month) (m .tables)) × Usable (m .tables) usesAfter)
+      → (Creditable (unitsInput (m .month) (m .tables)) × Usable (m .tables) networks energies)
       × (accountCount m ≤ length (columnAt (limit Accounts) c accountBlock)) × (ownerCount m ≤ length (columnAt (limit Owners) d ownerBlock))
   servable whole c d h k =
       ((b .can .creditable, can-use m used (b .can)), account-column m (b .can) whole c h, owner-column m (b .can) whole d k)
@@ -326,7 +341,7 @@ module _ {m : Input} {accounts₀ owners₀ network uses usesAfter : List ℕ} (
 
     -- .. black start ..
     module _ {s place : ℕ} {blackstart blackstartcredits : List ℕ} {second : Answer}
-        (served : ServiceSettled (unitsInput (m .month) (m .tables)) (at usesAfter) s place (columnAt (limit Accounts) 1 accounts₁) blackstart (columnAt (limit Owners) 2 owners₁) blackstartcredits second) where
+        (served : ServiceSettled (unitsInput (m .month) (m .tables)) (at networks) (at energies) s place (columnAt (limit Accounts) 1 accounts₁) blackstart (columnAt (limit Owners) 2 owners₁) blackstartcredits second) where
       abbrev accounts₂ : List ℕ
       accounts₂ = withColumns (limit Accounts) 1 1 blackstart accounts₁
 
@@ -338,7 +353,7 @@ module _ {m : Input} {accounts₀ owners₀ network uses usesAfter : List ℕ} (
 
       -- .. and reactive
       module _ {s′ place′ : ℕ} {reactives reactivecredits : List ℕ} {third : Answer}
-          (served-too : ServiceSettled (unitsInput (m .month) (m .tables)) (at usesAfter) s′ place′ (columnAt (limit Accounts) 2 accounts₂) reactives (columnAt (limit Owners) 3 owners₂) reactivecredits third) where
+          (served-too : ServiceSettled (unitsInput (m .month) (m .tables)) (at networks) (at energies) s′ place′ (columnAt (limit Accounts) 2 accounts₂) reactives (columnAt (limit Owners) 3 owners₂) reactivecredits third) where
         abbrev accounts₃ : List ℕ
         accounts₃ = withColumns (limit Accounts) 2 1 reactives accounts₂
 

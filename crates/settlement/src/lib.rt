@@ -53,12 +53,14 @@ fn divide_month<'a>(
     ensures { λ r. ⌜ MonthDivided (monthWith month nonzone (tablesFrom (map now (tables .entry)))) (now (accounts .exit)) (now (owners .exit)) r ⌝ }
 {
     let count = columns::rows_of(tables, Table::Zones) as u64;
-    let mut uses = [0u64; MOST_ACCOUNTS];
+    let mut networks = [0u64; MOST_ACCOUNTS];
+    let mut energies = [0u64; MOST_ACCOUNTS];
     accounts::fill(
         nonzone,
         tables,
         &mut accounts[..NETWORK_CHARGES_END],
-        &mut uses,
+        &mut networks,
+        &mut energies,
     );
     let first = network::credit(
         tables,
@@ -70,7 +72,8 @@ fn divide_month<'a>(
         BLACK_START,
         month,
         tables,
-        &uses,
+        &networks,
+        &energies,
         &mut accounts[NETWORK_CHARGES_END..BLACK_START_CHARGES_END],
         &mut owners[NETWORK_CREDITS_END..BLACK_START_CREDITS_END],
         count + 1,
@@ -79,7 +82,8 @@ fn divide_month<'a>(
         REACTIVE,
         month,
         tables,
-        &uses,
+        &networks,
+        &energies,
         &mut accounts[BLACK_START_CHARGES_END..REACTIVE_CHARGES_END],
         &mut owners[BLACK_START_CREDITS_END..REACTIVE_CREDITS_END],
         3 * count + 2,

@@ -2,8 +2,9 @@
 // name, then its statement. Figure B1 for both services at once, and months of two zones that are refused at each kind of division
 // with BIG and with BASE, at the first zone and at the last. With two zones the network's divisions are places 0 and 1, that of the
 // border's charges place 2; for black start the splits are places 3 and 5, the shares 4 and 6, the non-zone pot 7; for reactive 8
-// and 10, 9 and 11, and 12. The file `stdin` beside `src/` has the cases, each a line with a name, a month file and an empty line;
-// `stdout` has what must come by the paper, and the gate holds one to the other.
+// and 10, 9 and 11, and 12. Then zones without requirement: who pays the pots of others, how a month, a reserve credit or the other
+// service decides it, what stays BASE and what becomes BIG. The file `stdin` beside `src/` has the cases, each a line with a name, a
+// month file and an empty line; `stdout` has what must come by the paper, and the gate holds one to the other.
 use libc::STDIN_FILENO;
 use libc::STDOUT_FILENO;
 ghost use Prim.Native.Nat.{_+_, _≤_, _<_, min};

@@ -1,23 +1,28 @@
-//! Months that are aimed at one division: at its limits and one past them, and at a pot with
-//! nothing to divide it by.
+//! Months that are aimed at one division: at its limits and one past them, at a pot with nothing to
+//! divide it by, and at zones without requirement for a service.
 
 use super::good::{good, Sizes};
 use super::numbers::Numbers;
-use super::{row, Made, Row, ACCOUNTS, LOADS, OWNERS, RESERVATIONS, UNITS, ZONES};
+use super::{
+    annual_of_nothing, row, Made, Row, ACCOUNTS, LOADS, OWNERS, RESERVATIONS, UNITS, ZONES,
+};
 use crate::divide::{LARGEST_POT, LARGEST_WEIGHT_SUM};
 
 const POT: u64 = LARGEST_POT as u64;
 const WEIGHTS: u64 = LARGEST_WEIGHT_SUM as u64;
 
 /// What an aim can do with a good month. Each leaves the tables good.
-const AIMS: [fn(&mut Numbers, &mut Made); 12] = [
+const AIMS: [fn(&mut Numbers, &mut Made); 15] = [
     network_pot_at_limit,
     network_weights_at_limit,
     all_weights_at_limit,
     split_pot_at_limit,
     non_zone_pot_at_limit,
+    non_zone_pot_of_loads_at_limit,
     no_use_at_all,
     no_use_in_a_zone,
+    nothing_earned_in_a_zone,
+    earned_only_without_use,
     no_requirement_in_a_zone,
     no_requirement_at_all,
     weights_too_big_for_nothing,
@@ -45,7 +50,7 @@ pub fn aimed(numbers: &mut Numbers) -> Made {
 /// Contributions that come to 10^11 cents at the highest rate; the rounding of each account's
 /// charge then makes it a few cents more or less.
 fn network_pot_at_limit(numbers: &mut Numbers, made: &mut Made) {
-    let zone = match numbers.once_in(3) {
+    let zone = match numbers.once_in(2) {
         true => 0,
         false => a_zone(numbers, made),
     };
@@ -111,10 +116,7 @@ fn weights_too_big_for_nothing(numbers: &mut Numbers, made: &mut Made) {
 /// Twelfths of one zone's units that add up to 10^11, or one more or less.
 fn split_pot_at_limit(numbers: &mut Numbers, made: &mut Made) {
     let service = numbers.between(1, 2);
-    let zone = match made.zones_with_use() {
-        used if used.is_empty() => a_zone(numbers, made),
-        used => numbers.one_of(&used),
-    };
+    let zone = a_zone_with_use(numbers, made);
     let count = numbers.count_between(2, made.rows[UNITS].len());
     let total = near(numbers, POT);
     set_pots(numbers, made, count, service, total, |_, _| zone);
@@ -145,6 +147,45 @@ fn non_zone_pot_at_limit(numbers: &mut Numbers, made: &mut Made) {
     set_pots(numbers, made, count, service, total, |_, unit| {
         zones[unit % zones.len()]
     });
+}
+
+/// Loads in a zone where a service earns nothing, and no use in the zones where it does, so that all
+/// their pots go to those loads, where they come to 10^11, or one more or less. Or next to no use
+/// there, and what goes to the loads comes to about as much.
+fn non_zone_pot_of_loads_at_limit(numbers: &mut Numbers, made: &mut Made) {
+    let service = numbers.between(1, 2);
+    let zone = a_zone(numbers, made);
+    let payers = some_accounts(numbers, made, zone);
+    let next_to_none = numbers.once_in(2);
+    let mut earning = made.column(ZONES, 0);
+    earning.retain(|&other| other != zone);
+    if next_to_none {
+        earning.retain(|&other| !made.accounts_of(other).is_empty());
+    }
+    if earning.is_empty() {
+        return;
+    }
+    for other in made.column(ZONES, 0) {
+        let accounts = made.accounts_of(other);
+        drop_use(made, &accounts);
+        if next_to_none {
+            set_loads(made, &accounts, 1);
+        }
+    }
+    set_loads(made, &payers, 1_000_000);
+    let total = match next_to_none {
+        true => POT + numbers.up_to(POT / 10),
+        false => near(numbers, POT),
+    };
+    let count = numbers.count_between(2, made.rows[UNITS].len());
+    set_pots(numbers, made, count, service, total, |_, unit| {
+        earning[unit % earning.len()]
+    });
+    // Else the network, or the other service, may be refused before this one.
+    for row in &mut made.rows[ZONES] {
+        row[1] = row[1].min(1_000);
+    }
+    move_units(numbers, made, 3 - service, &[zone]);
 }
 
 /// Pots, and no use anywhere to divide them by.
@@ -180,6 +221,62 @@ fn no_use_in_a_zone(numbers: &mut Numbers, made: &mut Made) {
             drop_use(made, &accounts);
         }
     }
+}
+
+/// A zone in which a service earns nothing: its units are all elsewhere, or have so little a year
+/// that nothing of it falls to this month.
+fn nothing_earned_in_a_zone(numbers: &mut Numbers, made: &mut Made) {
+    let service = numbers.between(1, 2);
+    let zone = a_zone_with_use(numbers, made);
+    let mut others = made.zones_with_use();
+    others.retain(|&other| other != zone);
+    let elsewhere = !others.is_empty() && numbers.once_in(2);
+    if !elsewhere {
+        let unit = numbers.first_middle_or_last(0, made.rows[UNITS].len() - 1);
+        (made.rows[UNITS][unit][2], made.rows[UNITS][unit][3]) = (zone, service);
+    }
+    let month = made.head.month;
+    let units = made.rows[UNITS].iter_mut();
+    for unit in units.filter(|unit| unit[2] == zone && unit[3] == service) {
+        match elsewhere {
+            true => unit[2] = numbers.one_of(&others),
+            false => (unit[4], unit[5]) = (annual_of_nothing(numbers, month), 0),
+        }
+    }
+}
+
+/// A service that earns only in zones without use. Loads elsewhere pay for it; a reservation
+/// elsewhere leaves a zone's side that no one pays.
+fn earned_only_without_use(numbers: &mut Numbers, made: &mut Made) {
+    let service = numbers.between(1, 2);
+    let mut zones = made.column(ZONES, 0);
+    let first = numbers.position_below(zones.len());
+    zones.rotate_left(first);
+    let (earning, used) = zones.split_at(numbers.count_between(1, zones.len() - 1));
+    let payers = some_accounts(numbers, made, used[0]);
+    for &zone in earning {
+        let accounts = made.accounts_of(zone);
+        drop_use(made, &accounts);
+    }
+    for &zone in used {
+        let accounts = made.accounts_of(zone);
+        made.rows[RESERVATIONS].retain(|row| !accounts.contains(&row[0]));
+    }
+    let load = numbers.between(1, 1_000);
+    set_loads(made, &payers, load);
+    if numbers.once_in(2) {
+        let most = numbers.one_of(&[1, 1_000, 1_000_000_000]);
+        let reserved = numbers.between(1, most);
+        let payer = numbers.one_of(&payers);
+        made.rows[RESERVATIONS].push(row([payer, reserved, 0]));
+        made.rows[RESERVATIONS].sort_unstable();
+    }
+    let unit = numbers.first_middle_or_last(0, made.rows[UNITS].len() - 1);
+    let annual = numbers.between(12, 1_000_000);
+    made.rows[UNITS][unit][3..].copy_from_slice(&[service, annual, 0]);
+    move_units(numbers, made, service, earning);
+    // Else the other service may be refused before this one.
+    move_units(numbers, made, 3 - service, &used[..1]);
 }
 
 /// Charges in a zone whose owners have no requirement, or moved away.
@@ -267,6 +364,23 @@ fn earn_something(numbers: &mut Numbers, made: &mut Made) {
     made.rows[UNITS][unit][4] = made.rows[UNITS][unit][4].max(12);
 }
 
+fn move_units(numbers: &mut Numbers, made: &mut Made, service: u64, zones: &[u64]) {
+    let units = made.rows[UNITS].iter_mut();
+    for unit in units.filter(|unit| unit[3] == service) {
+        unit[2] = numbers.one_of(zones);
+    }
+}
+
+/// The same load on every day, and no other.
+fn set_loads(made: &mut Made, accounts: &[u64], load: u64) {
+    made.rows[LOADS].retain(|row| !accounts.contains(&row[0]));
+    for &account in accounts {
+        let days = 1..=made.head.days;
+        made.rows[LOADS].extend(days.map(|day| row([account, day, load])));
+    }
+    made.rows[LOADS].sort_unstable();
+}
+
 fn drop_use(made: &mut Made, accounts: &[u64]) {
     made.rows[LOADS].retain(|row| !accounts.contains(&row[0]));
     made.rows[RESERVATIONS].retain(|row| !accounts.contains(&row[0]));
@@ -290,6 +404,13 @@ fn near(numbers: &mut Numbers, limit: u64) -> u64 {
 fn a_zone(numbers: &mut Numbers, made: &Made) -> u64 {
     let last = made.rows[ZONES].len() - 1;
     made.rows[ZONES][numbers.first_middle_or_last(0, last)][0]
+}
+
+fn a_zone_with_use(numbers: &mut Numbers, made: &Made) -> u64 {
+    match made.zones_with_use() {
+        used if used.is_empty() => a_zone(numbers, made),
+        used => numbers.one_of(&used),
+    }
 }
 
 /// One to five accounts of a zone, with others moved there where it has too few.

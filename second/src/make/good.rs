@@ -251,16 +251,31 @@ fn make_units(numbers: &mut Numbers, made: &mut Made, sizes: &Sizes, level: Leve
         (true, border) => (zones, border),
     };
     let only_service = numbers.once_in(6).then(|| numbers.between(1, 2));
+    // A service may leave out some zones, and earn next to nothing in others.
+    let services = [1, 2].map(|_| {
+        let some = some_of(numbers, &served, 2);
+        let zones = match some.is_empty() || numbers.once_in(2) {
+            true => served.clone(),
+            false => some,
+        };
+        (zones, some_of(numbers, &served, 4))
+    });
     for unit in numbers.ascending(sizes.units, 9_999) {
         let owner = numbers.one_of(&made.rows[OWNERS]);
+        let service = only_service.unwrap_or_else(|| numbers.between(1, 2));
+        let (served, poor) = &services[service as usize - 1];
         let zone = match served.contains(&owner[1]) && numbers.once_in(2) {
             true => owner[1],
-            false => numbers.one_of(&served),
+            false => numbers.one_of(served),
         };
-        let service = only_service.unwrap_or_else(|| numbers.between(1, 2));
         let units = sizes.units as u64;
         let (annual, reserve) = match level {
             _ if !earns => (0, 0),
+            // Nothing in most months, else a cent or a reserve credit alone.
+            _ if poor.contains(&zone) => (
+                numbers.one_of(&[0, 1, 1, 2, 3, 12]),
+                numbers.one_of(&[0, 0, 0, 50]),
+            ),
             Level::Alike(annual) => (12 * annual + numbers.up_to(24), numbers.up_to(2)),
             Level::Small => (numbers.up_to(5_000), numbers.up_to(50)),
             Level::Middle => (numbers.up_to(1_000_000_000), numbers.up_to(10_000_000)),
@@ -274,4 +289,10 @@ fn make_units(numbers: &mut Numbers, made: &mut Made, sizes: &Sizes, level: Leve
         let unit = row([unit, owner[0], zone, service, annual, reserve]);
         made.rows[UNITS].push(unit);
     }
+}
+
+/// Each of them once in so many times.
+fn some_of(numbers: &mut Numbers, zones: &[u64], times: u64) -> Vec<u64> {
+    let zones = zones.iter().copied();
+    zones.filter(|_| numbers.once_in(times)).collect()
 }

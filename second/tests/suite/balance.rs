@@ -1,6 +1,6 @@
 //! What must come out even in every accepted month.
 
-use crate::settled::{settled_months, sum};
+use crate::settled::{settled_months, sum, units_pot};
 use second::divide::check;
 use second::make::{OWNERS, UNITS};
 
@@ -44,7 +44,8 @@ fn owners_are_credited_with_their_units_wherever_they_serve() {
     for settled in settled_months(23, MONTHS) {
         for (owner, credits) in settled.made.rows[OWNERS].iter().zip(&settled.credits) {
             for service in [1, 2] {
-                let pot = settled.units_pot(service, |unit| unit[1] == owner[0]);
+                let of_owner = |unit: &[u64; 6]| unit[1] == owner[0] && unit[3] == service;
+                let pot = units_pot(&settled.made, of_owner);
                 assert_eq!(credits[service as usize + 1], pot);
             }
             let mut units = settled.made.rows[UNITS].iter();

@@ -1,14 +1,45 @@
-//! "Figures to hold against it."
+//! "Figures to hold against it", and more of them for zones without requirement.
 
 use second::divide::{check, divide_alone};
 use second::make::CASE_S;
-use second::refusal::{BASE, BIG};
+use second::refusal::{Refusal, BASE, BIG};
 use second::settle::{network_charge, settle, unit_month};
 use second::statement;
-use second::tables::Head;
+use second::tables::{Head, Tables};
+
+const APRIL: Head = Head {
+    month: 4,
+    days: 30,
+    non_zone_rate: 0,
+};
+
+const DECEMBER: Head = Head {
+    month: 12,
+    days: 31,
+    non_zone_rate: 0,
+};
 
 fn divided(pot: u64, weights: &[u64]) -> Result<Vec<u128>, u64> {
     divide_alone(pot, weights, weights.len())
+}
+
+/// What the accounts are charged for a service.
+fn charged(head: Head, tables: &Tables, service: u64) -> Result<Vec<u64>, Refusal> {
+    let (charges, _) = settle(head, tables, tables[3].len(), 4 * tables[1].len() / 3)?;
+    let charges = charges.chunks(3).map(|charges| charges[service as usize]);
+    Ok(charges.collect())
+}
+
+/// Zones 1 and 2, both without rates, and an owner.
+fn two_zones(units: &[[u64; 6]], accounts: &[u64], loads: &[u64], reservations: &[u64]) -> Tables {
+    [
+        vec![1, 0, 2, 0],
+        vec![1, 1, 5],
+        units.concat(),
+        accounts.to_vec(),
+        loads.to_vec(),
+        reservations.to_vec(),
+    ]
 }
 
 #[test]
@@ -90,6 +121,100 @@ fn b1() {
     }
     assert_eq!(divided(1_000, &[600, 100]), Ok(vec![857, 143]));
     assert_eq!(divided(500, &[600, 100]), Ok(vec![429, 71]));
+}
+
+/// A unit in zone 1 alone. In zone 2 a load of 10 is non-zone use and a reservation of 120 is zone
+/// use: 360 and 480 in all, and a split of 429 and 571. Two accounts share the 571 alike, and the
+/// earlier one pays its odd cent, at the border or not.
+#[test]
+fn loads_in_a_zone_without_requirement() {
+    for service in [1, 2] {
+        let unit = [1, 1, 1, service, 12_000, 0];
+        let accounts = [1, 7, 1, 2, 7, 2, 3, 7, 0];
+        let loads = [1, 1, 10, 2, 1, 10];
+        let tables = two_zones(&[unit], &accounts, &loads, &[2, 120, 0, 3, 240, 0]);
+        assert_eq!(charged(APRIL, &tables, service), Ok(vec![429, 286, 285]));
+
+        let border_first = [1, 7, 0, 2, 7, 1, 3, 7, 2];
+        let loads = [2, 1, 10, 3, 1, 10];
+        let tables = two_zones(&[unit], &border_first, &loads, &[1, 240, 0, 3, 120, 0]);
+        assert_eq!(charged(APRIL, &tables, service), Ok(vec![286, 429, 285]));
+    }
+    assert_eq!(divided(1_000, &[360, 480]), Ok(vec![429, 571]));
+}
+
+/// The only zone with a requirement is idle: a load elsewhere pays its whole pot, a reservation
+/// elsewhere leaves a zone side that no one pays.
+#[test]
+fn an_idle_zone_with_the_only_requirement() {
+    for (service, share) in [(1, 4), (2, 9)] {
+        let unit = [1, 1, 1, service, 12_000, 0];
+        let accounts = [1, 7, 1, 2, 7, 2];
+        let loaded = two_zones(&[unit], &accounts, &[2, 1, 10], &[]);
+        assert_eq!(charged(APRIL, &loaded, service), Ok(vec![0, 1_000]));
+        let reserved = two_zones(&[unit], &accounts, &[], &[2, 10, 0]);
+        assert_eq!(
+            charged(APRIL, &reserved, service),
+            Err((BASE, 9, share)),
+            "the first zone's share"
+        );
+    }
+}
+
+/// Of 1 cent a year nothing falls to April, and the cent to December: only then has zone 2 a
+/// requirement.
+#[test]
+fn a_requirement_in_one_month_and_not_in_another() {
+    for service in [1, 2] {
+        let units = [[1, 1, 1, service, 12_000, 0], [2, 1, 2, service, 1, 0]];
+        let accounts = [1, 7, 1, 2, 7, 2];
+        let tables = two_zones(&units, &accounts, &[1, 1, 10, 2, 1, 10], &[]);
+        assert_eq!(charged(APRIL, &tables, service), Ok(vec![500, 500]));
+        assert_eq!(charged(DECEMBER, &tables, service), Ok(vec![1_000, 1]));
+    }
+    // A reserve credit alone is a requirement too.
+    let units = [[1, 1, 1, 1, 12_000, 0], [2, 1, 2, 1, 0, 1]];
+    let accounts = [1, 7, 1, 2, 7, 2];
+    let tables = two_zones(&units, &accounts, &[1, 1, 10, 2, 1, 10], &[]);
+    assert_eq!(charged(APRIL, &tables, 1), Ok(vec![1_000, 1]));
+}
+
+/// Nearly all use is the load of a zone without units, and pots of two zones go to it.
+#[test]
+fn a_non_zone_pot_too_big_for_its_division() {
+    for (service, non_zone) in [(1, 10), (2, 17)] {
+        let annual = 1_000_000_000_000;
+        let mut tables = [
+            vec![1, 0, 2, 0, 3, 0],
+            vec![1, 1, 5],
+            [[1, 1, 1, service, annual, 0], [2, 1, 2, service, annual, 0]].concat(),
+            vec![1, 7, 1, 2, 7, 2, 3, 7, 3],
+            vec![1, 1, 1, 2, 1, 1, 3, 1, 1_000_000],
+            vec![],
+        ];
+        assert_eq!(charged(APRIL, &tables, service), Err((BIG, 9, non_zone)));
+        // Reserved, the same use stays in the zone.
+        tables[4].truncate(6);
+        tables[5] = vec![3, 24_000_000, 0];
+        let pot = 83_333_333_333;
+        assert_eq!(charged(APRIL, &tables, service), Ok(vec![pot, pot, 0]));
+    }
+}
+
+/// Both zones have a black start requirement, and zone 1 alone has a reactive one.
+#[test]
+fn each_service_by_its_own_requirements() {
+    let units = [
+        [1, 1, 1, 1, 12_000, 0],
+        [2, 1, 2, 1, 6_000, 0],
+        [3, 1, 1, 2, 12_000, 0],
+    ];
+    let accounts = [1, 7, 1, 2, 7, 2, 3, 7, 0];
+    let loads = [1, 1, 10, 2, 1, 10];
+    let tables = two_zones(&units, &accounts, &loads, &[2, 120, 0, 3, 240, 0]);
+    // By 600 and 240: 714 and 286, 357 and 143.
+    assert_eq!(charged(APRIL, &tables, 1), Ok(vec![714, 357, 429]));
+    assert_eq!(charged(APRIL, &tables, 2), Ok(vec![429, 286, 285]));
 }
 
 #[test]

@@ -1,18 +1,21 @@
 //! The makers reach every refusal at the ends and in the middle, every division place, the limits
-//! and one past them: else agreement on what they make would mean little.
+//! and one past them, and zones without requirement: else agreement on what they make would mean
+//! little.
 
-use crate::settled::settled_months;
-use second::divide::{LARGEST_POT, LARGEST_WEIGHT_SUM};
-use second::make::{self, Made, ACCOUNTS, LOADS, OWNERS, RESERVATIONS, UNITS, ZONES};
+use crate::settled::{has_requirement, parts_of_use, settled_months, units_pot};
+use second::divide::{divide, LARGEST_POT, LARGEST_WEIGHT_SUM};
+use second::make::{self, Made, ACCOUNTS, LOADS, OWNERS, UNITS, ZONES};
 use second::month_file::{read, FULL_SIZE};
 use second::refusal::{BASE, BIG, COUNT, LINK, MONTH, ORDER, PAIR, RANGE, ROOM, TEXT};
-use second::settle::{network_charge, settle, unit_month};
+use second::settle::{network_charge, settle};
 use second::statement::MOST_BYTES;
 use second::tables::LIMITS;
 use std::collections::BTreeMap;
 
 const INPUTS: u64 = 50_000;
 const SEED: u64 = 41;
+
+const SERVICES: [(u64, &str); 2] = [(1, "black start"), (2, "reactive")];
 
 /// How often each thing was seen, under a name for it.
 #[derive(Default)]
@@ -159,6 +162,8 @@ fn months_reach_every_refusal_and_place() {
         "units pot of service 2",
         "non-zone pot of service 1",
         "non-zone pot of service 2",
+        "non-zone pot of service 1 with loads of zones",
+        "non-zone pot of service 2 with loads of zones",
     ] {
         for place in ["at the limit", "one past it"] {
             seen.hold(20, &format!("{kind} {place}"));
@@ -217,7 +222,7 @@ fn look_at_limits(made: &Made, seen: &mut Seen) {
             let pot = units_pot(made, |unit| unit[2] == zone && unit[3] == service);
             near(
                 &format!("units pot of service {service}"),
-                pot,
+                u128::from(pot),
                 LARGEST_POT,
                 seen,
             );
@@ -225,33 +230,47 @@ fn look_at_limits(made: &Made, seen: &mut Seen) {
     }
     let weights = made.rows[OWNERS].iter().map(|row| u128::from(row[2]));
     near("all weights", weights.sum(), LARGEST_WEIGHT_SUM, seen);
-    // Without any use in a zone, all zones' pots go to the border.
-    let in_zones = |number: u64| {
-        let mut accounts = made.rows[ACCOUNTS].iter();
-        accounts.any(|row| row[0] == number && row[2] != 0)
-    };
-    let mut loads = made.rows[LOADS].iter();
-    let mut reservations = made.rows[RESERVATIONS].iter();
-    if loads.any(|row| in_zones(row[0])) || reservations.any(|row| in_zones(row[0])) {
-        return;
-    }
-    for service in [1, 2] {
-        let pot = units_pot(made, |unit| unit[3] == service);
-        near(
-            &format!("non-zone pot of service {service}"),
-            pot,
-            LARGEST_POT,
-            seen,
-        );
+    for (service, _) in SERVICES {
+        let parts = parts_of_use(made, |zone| has_requirement(made, service, zone));
+        if let Ok(pot) = non_zone_pot(made, service, &parts) {
+            let kind = format!("non-zone pot of service {service}");
+            near(&kind, pot, LARGEST_POT, seen);
+            let mut accounts = made.rows[ACCOUNTS].iter().zip(&parts);
+            if accounts.any(|(account, parts)| account[2] != 0 && parts.1 > 0) {
+                near(
+                    &format!("{kind} with loads of zones"),
+                    pot,
+                    LARGEST_POT,
+                    seen,
+                );
+            }
+        }
     }
 }
 
-fn units_pot(made: &Made, chosen: impl Fn(&[u64; 6]) -> bool) -> u128 {
-    let month = u128::from(made.head.month);
-    let units = made.rows[UNITS].iter().filter(|unit| chosen(unit));
-    units
-        .map(|unit| unit_month(u128::from(unit[4]), month) + u128::from(unit[5]))
-        .sum()
+/// A service's non-zone pot by those zone parts and non-zone parts of use, or the first refusal
+/// before it and at which kind of division.
+fn non_zone_pot(
+    made: &Made,
+    service: u64,
+    parts: &[(u64, u64)],
+) -> Result<u128, (u64, &'static str)> {
+    let sum = |part: fn(&(u64, u64)) -> u64| parts.iter().map(part).map(u128::from).sum();
+    let (zone_use, non_zone_use) = (sum(|parts| parts.0), sum(|parts| parts.1));
+    let mut non_zone_pot = 0;
+    for zone in &made.rows[ZONES] {
+        let pot = units_pot(made, |unit| unit[2] == zone[0] && unit[3] == service);
+        let split = divide(u128::from(pot), &[zone_use, non_zone_use]);
+        let sides = split.map_err(|number| (number, "split"))?;
+        let accounts = made.rows[ACCOUNTS].iter().zip(parts);
+        let weights: Vec<u128> = accounts
+            .filter(|(account, _)| account[2] == zone[0])
+            .map(|(_, parts)| u128::from(parts.0))
+            .collect();
+        divide(sides[0], &weights).map_err(|number| (number, "share"))?;
+        non_zone_pot += sides[1];
+    }
+    Ok(non_zone_pot)
 }
 
 fn near(kind: &str, number: u128, limit: u128, seen: &mut Seen) {
@@ -260,6 +279,137 @@ fn near(kind: &str, number: u128, limit: u128, seen: &mut Seen) {
     }
     if number == limit + 1 {
         seen.see(format!("{kind} one past it"));
+    }
+}
+
+/// Zones without requirement for a service, what is used there, and the answers that would be others
+/// if every zone had one.
+#[test]
+fn months_reach_zones_without_requirement() {
+    let mut seen = Seen::default();
+    for index in 0..INPUTS {
+        let made = make::month(SEED, index);
+        let zones = made.rows[ZONES].len() as u64;
+        let answer = match settle(made.head, &made.tables(), usize::MAX, usize::MAX) {
+            Ok(_) => "accepted".into(),
+            Err((number, 9, place)) if place > zones => {
+                format!("{number} {}", place_kind(place, zones).0)
+            }
+            Err(_) => continue,
+        };
+        let mut worked_out = "accepted".into();
+        for (service, name) in SERVICES {
+            let parts = parts_of_use(&made, |zone| has_requirement(&made, service, zone));
+            let parts_else = parts_of_use(&made, |zone| zone != 0);
+            let [outcome, outcome_else] =
+                [&parts, &parts_else].map(|parts| outcome(&made, service, name, parts));
+            if outcome == answer && units_pot(&made, |unit| unit[3] == service) > 0 {
+                if outcome == "accepted" {
+                    look_at_accounts(&made, service, name, &parts, &mut seen);
+                }
+                if only_reservations_elsewhere(&made, service, &parts) {
+                    seen.see(format!("{name}: {outcome}, only reservations elsewhere"));
+                }
+                if outcome != outcome_else {
+                    seen.see(format!("{name}: {outcome}, else {outcome_else}"));
+                } else if parts != parts_else {
+                    seen.see(format!("{name}: {outcome}, else by other parts"));
+                }
+            }
+            // Such zones bring no BASE that isn't there without them.
+            if outcome.starts_with(&format!("{BASE} ")) {
+                assert_eq!(outcome, outcome_else);
+            }
+            if outcome != "accepted" {
+                worked_out = outcome;
+                break;
+            }
+        }
+        assert_eq!(answer, worked_out, "month {index}");
+    }
+    seen.print();
+
+    seen.hold(100, "black start: a requirement of reserve alone");
+    for (_, name) in SERVICES {
+        for units in ["no units", "units of nothing"] {
+            for used in ["loads", "reservations", "loads and reservations"] {
+                seen.hold(100, &format!("{name}: {used} where it has {units}"));
+            }
+        }
+        seen.hold(100, &format!("{name}: a requirement of one cent"));
+        for order in ["the border, then a zone", "a zone, then the border"] {
+            seen.hold(1_000, &format!("{name}: non-zone use of {order}"));
+        }
+        let share = format!("{BASE} {name} share");
+        let non_zone = format!("{BIG} {name} non-zone");
+        seen.hold(1_000, &format!("{name}: accepted, else by other parts"));
+        seen.hold(100, &format!("{name}: accepted, else {share}"));
+        seen.hold(20, &format!("{name}: {non_zone}, else accepted"));
+        seen.hold(20, &format!("{name}: {non_zone}, else {share}"));
+        seen.hold(50, &format!("{name}: {share}, only reservations elsewhere"));
+        seen.hold(
+            20,
+            &format!("{name}: accepted, only reservations elsewhere"),
+        );
+    }
+}
+
+fn outcome(made: &Made, service: u64, name: &str, parts: &[(u64, u64)]) -> String {
+    match non_zone_pot(made, service, parts) {
+        Ok(0..=LARGEST_POT) => "accepted".into(),
+        Ok(_) => format!("{BIG} {name} non-zone"),
+        Err((number, kind)) => format!("{number} {name} {kind}"),
+    }
+}
+
+/// Whether there is zone use, but only of reservations in zones without requirement.
+fn only_reservations_elsewhere(made: &Made, service: u64, parts: &[(u64, u64)]) -> bool {
+    let accounts = made.rows[ACCOUNTS].iter().zip(parts);
+    let zones = accounts.filter(|(_, parts)| parts.0 > 0);
+    let mut zones = zones.map(|(account, _)| account[2]).peekable();
+    zones.peek().is_some() && !zones.any(|zone| has_requirement(made, service, zone))
+}
+
+/// What is used in zones without requirement, how their accounts stand beside the border's in the
+/// non-zone pot, and requirements that are nearly none.
+fn look_at_accounts(made: &Made, service: u64, name: &str, parts: &[(u64, u64)], seen: &mut Seen) {
+    let accounts = || made.rows[ACCOUNTS].iter().zip(parts);
+    for (&[_, _, zone, ..], parts) in accounts() {
+        if zone == 0 || has_requirement(made, service, zone) {
+            continue;
+        }
+        let mut units = made.rows[UNITS].iter();
+        let units = match units.any(|unit| unit[2] == zone && unit[3] == service) {
+            true => "units of nothing",
+            false => "no units",
+        };
+        let used = match parts {
+            (0, 0) => "nothing",
+            (0, _) => "loads",
+            (_, 0) => "reservations",
+            _ => "loads and reservations",
+        };
+        seen.see(format!("{name}: {used} where it has {units}"));
+    }
+    let payers = accounts().filter(|(_, parts)| parts.1 > 0);
+    let at_border: Vec<bool> = payers.map(|(account, _)| account[2] == 0).collect();
+    for neighbours in at_border.windows(2) {
+        match neighbours {
+            [true, false] => seen.see(format!("{name}: non-zone use of the border, then a zone")),
+            [false, true] => seen.see(format!("{name}: non-zone use of a zone, then the border")),
+            _ => {}
+        }
+    }
+    for zone in &made.rows[ZONES] {
+        let there = |unit: &[u64; 6]| unit[2] == zone[0] && unit[3] == service;
+        let units = made.rows[UNITS].iter().filter(|unit| there(unit));
+        let reserve: u64 = units.map(|unit| unit[5]).sum();
+        match units_pot(made, there) {
+            0 => {}
+            1 => seen.see(format!("{name}: a requirement of one cent")),
+            pot if pot == reserve => seen.see(format!("{name}: a requirement of reserve alone")),
+            _ => {}
+        }
     }
 }
 

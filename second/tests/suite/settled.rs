@@ -69,8 +69,6 @@ impl Settled {
             amounts,
         );
 
-        let non_zone_use = sum(&self.uses_in(0));
-        let zone_use: u64 = self.zones().map(|zone| sum(&self.uses_in(zone))).sum();
         let kinds = [
             [
                 "black start split",
@@ -80,10 +78,23 @@ impl Settled {
             ["reactive split", "reactive share", "reactive non-zone"],
         ];
         for (service, [split, share, non_zone]) in (1..).zip(kinds) {
+            let with_requirement = |zone: u64| has_requirement(&self.made, service, zone);
+            let parts = parts_of_use(&self.made, with_requirement);
+            let zone_use = parts.iter().map(|parts| parts.0).sum();
+            let non_zone_use = parts.iter().map(|parts| parts.1).sum();
+            let rows = || {
+                self.made.rows[ACCOUNTS]
+                    .iter()
+                    .zip(&parts)
+                    .zip(&self.charges)
+            };
             let mut non_zone_pot = 0;
-            for zone in self.zones() {
-                let pot = self.units_pot(service, |unit| unit[2] == zone);
-                let charges = self.charges_in(zone, service as usize);
+            for zone in self.zones().filter(|&zone| with_requirement(zone)) {
+                let pot = units_pot(&self.made, |unit| unit[2] == zone && unit[3] == service);
+                let rows = rows().filter(|((account, _), _)| account[2] == zone);
+                let (weights, charges): (Vec<u64>, Vec<u64>) = rows
+                    .map(|((_, parts), charges)| (parts.0, charges[service as usize]))
+                    .unzip();
                 let side = sum(&charges);
                 // Where the zone is charged more than the pot, the check of the split says no.
                 let other_side = pot.saturating_sub(side);
@@ -93,11 +104,15 @@ impl Settled {
                     vec![zone_use, non_zone_use],
                     vec![side, other_side],
                 );
-                add(share, side, self.uses_in(zone), charges);
+                add(share, side, weights, charges);
                 non_zone_pot += other_side;
             }
-            let charges = self.charges_in(0, service as usize);
-            add(non_zone, non_zone_pot, self.uses_in(0), charges);
+            // A zone without requirement has no pot, so that its accounts pay for non-zone use alone.
+            let rows = rows().filter(|((account, _), _)| !with_requirement(account[2]));
+            let (weights, charges) = rows
+                .map(|((_, parts), charges)| (parts.1, charges[service as usize]))
+                .unzip();
+            add(non_zone, non_zone_pot, weights, charges);
         }
         divisions
     }
@@ -118,29 +133,48 @@ impl Settled {
         let rows = rows.filter(|(owner, _)| owner[1] == zone);
         rows.map(|(owner, credits)| (owner[2], credits[0])).unzip()
     }
+}
 
-    pub fn units_pot(&self, service: u64, chosen: impl Fn(&[u64; 6]) -> bool) -> u64 {
-        let month = self.made.head.month;
-        let units = self.made.rows[UNITS].iter();
-        let units = units.filter(|unit| unit[3] == service && chosen(unit));
-        units
-            .map(|unit| unit[4] * month / 12 - unit[4] * (month - 1) / 12 + unit[5])
-            .sum()
-    }
+/// The credits of those units this month.
+pub fn units_pot(made: &Made, chosen: impl Fn(&[u64; 6]) -> bool) -> u64 {
+    let units = made.rows[UNITS].iter().filter(|unit| chosen(unit));
+    units.map(|unit| credit(made, unit)).sum()
+}
 
-    fn uses_in(&self, zone: u64) -> Vec<u64> {
-        let accounts = self.made.rows[ACCOUNTS].iter();
-        let accounts = accounts.filter(|account| account[2] == zone);
-        accounts
-            .map(|account| {
-                let of_account = |row: &&[u64; 6]| row[0] == account[0];
-                let loads = self.made.rows[LOADS].iter().filter(of_account);
-                let energy = self.made.rows[RESERVATIONS].iter().filter(of_account);
-                24 * loads.map(|row| row[2]).sum::<u64>()
-                    + energy.map(|row| row[1] - row[2]).sum::<u64>()
-            })
-            .collect()
-    }
+/// Whether a unit of the service has a credit in that zone, which the border never has.
+pub fn has_requirement(made: &Made, service: u64, zone: u64) -> bool {
+    let mut units = made.rows[UNITS].iter();
+    units.any(|unit| unit[2] == zone && unit[3] == service && credit(made, unit) > 0)
+}
+
+fn credit(made: &Made, unit: &[u64; 6]) -> u64 {
+    let month = made.head.month;
+    unit[4] * month / 12 - unit[4] * (month - 1) / 12 + unit[5]
+}
+
+/// What each account adds to zone use and to non-zone use, with a requirement in those zones: a load
+/// is zone use only there, a reservation in every zone.
+pub fn parts_of_use(made: &Made, has_requirement: impl Fn(u64) -> bool) -> Vec<(u64, u64)> {
+    let accounts = made.rows[ACCOUNTS].iter();
+    accounts
+        .map(|&[account, _, zone, ..]| {
+            let loads = made.rows[LOADS].iter().filter(|row| row[0] == account);
+            let loads = 24 * loads.map(|row| row[2]).sum::<u64>();
+            let reservations = made.rows[RESERVATIONS].iter();
+            let reservations = reservations.filter(|row| row[0] == account);
+            let reservations = reservations.map(|row| row[1] - row[2]).sum::<u64>();
+            let mut parts = (0, 0);
+            match has_requirement(zone) {
+                true => parts.0 += loads,
+                false => parts.1 += loads,
+            }
+            match zone {
+                0 => parts.1 += reservations,
+                _ => parts.0 += reservations,
+            }
+            parts
+        })
+        .collect()
 }
 
 pub fn sum(numbers: &[u64]) -> u64 {

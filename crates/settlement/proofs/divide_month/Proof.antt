@@ -20,16 +20,16 @@ use Rattle.settlement.proofs.divide_month.Tie as tie
 
 -- the places behind the calls, each from the one after it
 abbrev servedAt : tie.After-settle2 → tie.After-settle
-servedAt c = c .before .before .before .before .before .before .before .before
+servedAt c = c .before .before .before .before .before .before .before .before .before
 
 abbrev creditedAt : tie.After-settle → tie.After-credit
-creditedAt c = c .before .before .before .before .before .before
+creditedAt c = c .before .before .before .before .before .before .before
 
 abbrev filledAt : tie.After-credit → tie.After-fill
-filledAt c = c .before .before .before .before .before .before
+filledAt c = c .before .before .before .before .before .before .before
 
 abbrev countedAt : tie.After-fill → tie.After-rows-of
-countedAt c = c .before .before .before
+countedAt c = c .before .before .before .before
 
 abbrev startOf : tie.After-rows-of → tie.Start
 startOf c = c .before .before .before
@@ -41,7 +41,7 @@ abbrev monthAt : tie.Start → Input
 monthAt c = monthWith (c .args .month) (c .args .nonzone) (tablesFrom (map now (c .args .tables)))
 
 begun : (c : tie.After-fill)
-    → Begun (monthAt (startAt c)) (startAt c .args .accounts .now) (startAt c .args .owners .now) (c .fill .last .1 .1 .0) (replicate 32 0) (c .fill .last .1 .1 .1 .0)
+    → Begun (monthAt (startAt c)) (startAt c .args .accounts .now) (startAt c .args .owners .now) (c .fill .last .1 .1 .0) (replicate 32 0) (c .fill .last .1 .1 .1 .0) (c .fill .last .1 .1 .1 .1 .0)
 begun c =
     let pre = startAt c .pre in
     record { can = pre .0; new = pre .1; filled = c .fill .ensures; room = pre .0 .fillable .few }
@@ -61,29 +61,35 @@ slice-aggregate-fill c = sym (first-long (new-whole (startOf (c .before) .pre .1
 slice-aggregate-fill-2 : tie.Need-slice-aggregate-fill-2
 slice-aggregate-fill-2 c = search needs
 
+slice-aggregate-fill-3 : tie.Need-slice-aggregate-fill-3
+slice-aggregate-fill-3 c = search needs
+
 fill-requires : tie.Need-fill-requires
 fill-requires c κs =
-    let start = startOf (c .before .before) in
+    let start = startOf (c .before .before .before) in
     let pre = start .pre in
-    (pre .0 .fillable, (account-column (monthAt start) (pre .0) (new-whole (pre .1)) 0 (omega arith), pre .0 .fillable .few))
+    let few = pre .0 .fillable .few in (pre .0 .fillable, (account-column (monthAt start) (pre .0) (new-whole (pre .1)) 0 (omega arith), few, few))
 
 slice-reshare-prefix-credit : tie.Need-slice-reshare-prefix-credit
 slice-reshare-prefix-credit c = search needs
 
 slice-aggregate-credit : tie.Need-slice-aggregate-credit
-slice-aggregate-credit c = sym (first-long (whole₁ (begun (c .before .before .before .before))))
+slice-aggregate-credit c = sym (first-long (whole₁ (begun (c .before .before .before .before .before))))
 
 slice-relend-prefix-credit : tie.Need-slice-relend-prefix-credit
 slice-relend-prefix-credit c = search needs
 
 slice-aggregate-credit-2 : tie.Need-slice-aggregate-credit-2
-slice-aggregate-credit-2 c = sym (divisible (begun (c .before .before .before .before .before)) .1 .long)
+slice-aggregate-credit-2 c = sym (divisible (begun (c .before .before .before .before .before .before)) .1 .long)
 
 credit-requires : tie.Need-credit-requires
-credit-requires c κs = divisible (begun (c .before .before .before .before .before))
+credit-requires c κs = divisible (begun (c .before .before .before .before .before .before))
 
 slice-aggregate-settle : tie.Need-slice-aggregate-settle
 slice-aggregate-settle c = search needs
+
+slice-aggregate-settle-2 : tie.Need-slice-aggregate-settle-2
+slice-aggregate-settle-2 c = search needs
 
 sub-settle : tie.Need-sub-settle
 sub-settle c = search needs
@@ -108,13 +114,16 @@ add-settle c = search needs
 
 settle-requires : tie.Need-settle-requires
 settle-requires c κs =
-    let credited = c .before .before .before .before .before in
+    let credited = c .before .before .before .before .before .before in
     let filled = filledAt credited in
     let can = servable (begun filled) (whole₂ (begun filled) (credited .credit .ensures)) 1 2 (omega arith) (omega arith) in
     ((can .0 .0, can .0 .1, omega (arith, few-zones (countedAt filled), can .0 .0 .few-zones)), (can .1, can .2))
 
-slice-aggregate-settle-2 : tie.Need-slice-aggregate-settle-2
-slice-aggregate-settle-2 c = search needs
+slice-aggregate-settle-3 : tie.Need-slice-aggregate-settle-3
+slice-aggregate-settle-3 c = search needs
+
+slice-aggregate-settle-4 : tie.Need-slice-aggregate-settle-4
+slice-aggregate-settle-4 c = search needs
 
 sub-settle-3 : tie.Need-sub-settle-3
 sub-settle-3 c = search needs
@@ -124,7 +133,7 @@ part-settle-start-3 c = search needs
 
 part-settle-end-3 : tie.Need-part-settle-end-3
 part-settle-end-3 c =
-    let served = c .before .before .before .before .before in
+    let served = c .before .before .before .before .before .before in
     let credited = creditedAt served in
     omega (arith, whole₃ (begun (filledAt credited)) (credited .credit .ensures) (served .settle .ensures) .for-accounts)
 
@@ -136,19 +145,19 @@ part-settle-start-4 c = search needs
 
 part-settle-end-4 : tie.Need-part-settle-end-4
 part-settle-end-4 c =
-    let served = c .before .before .before .before .before .before in
+    let served = c .before .before .before .before .before .before .before in
     let credited = creditedAt served in
     omega (arith, whole₃ (begun (filledAt credited)) (credited .credit .ensures) (served .settle .ensures) .for-owners)
 
 mul-settle : tie.Need-mul-settle
-mul-settle c = omega (arith, few-zones (countedAt (filledAt (creditedAt (c .before .before .before .before .before .before .before)))))
+mul-settle c = omega (arith, few-zones (countedAt (filledAt (creditedAt (c .before .before .before .before .before .before .before .before)))))
 
 add-settle-2 : tie.Need-add-settle-2
-add-settle-2 c = omega (arith, few-zones (countedAt (filledAt (creditedAt (c .before .before .before .before .before .before .before)))))
+add-settle-2 c = omega (arith, few-zones (countedAt (filledAt (creditedAt (c .before .before .before .before .before .before .before .before)))))
 
 settle-requires-2 : tie.Need-settle-requires-2
 settle-requires-2 c κs =
-    let served = c .before .before .before .before .before .before .before in
+    let served = c .before .before .before .before .before .before .before .before in
     let credited = creditedAt served in
     let filled = filledAt credited in
     let can = servable (begun filled) (whole₃ (begun filled) (credited .credit .ensures) (served .settle .ensures)) 2 3 (omega arith) (omega arith) in
@@ -195,6 +204,7 @@ divide-month-spec =
     slice-relend-prefix-fill
     slice-aggregate-fill
     slice-aggregate-fill-2
+    slice-aggregate-fill-3
     fill-requires
     slice-reshare-prefix-credit
     slice-aggregate-credit
@@ -202,6 +212,7 @@ divide-month-spec =
     slice-aggregate-credit-2
     credit-requires
     slice-aggregate-settle
+    slice-aggregate-settle-2
     sub-settle
     part-settle-start
     part-settle-end
@@ -210,7 +221,8 @@ divide-month-spec =
     part-settle-end-2
     add-settle
     settle-requires
-    slice-aggregate-settle-2
+    slice-aggregate-settle-3
+    slice-aggregate-settle-4
     sub-settle-3
     part-settle-start-3
     part-settle-end-3
