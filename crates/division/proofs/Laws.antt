@@ -139,12 +139,18 @@ module _ (pot : ℕ) (weights : List ℕ) (positive : 0 < total weights) where
       (λ (fi : getsCent pot weights i ≡ false). rw fi (omega (arith, remainder-below pot weights positive j)))
       (true-or-false (getsCent pot weights i))
 
+  -- so none stands more than a whole cent higher over its exact share than another
+  pub none-ahead : (i j : ℕ) → i < length weights → j < length weights
+      → total weights * at (shares pot weights) i + pot * at weights j ≤ total weights * at (shares pot weights) j + pot * at weights i + total weights
+  none-ahead i j bi bj =
+      omega (arith, scaled i bi, scaled j bj, exact pot weights positive i, exact pot weights positive j, cents-level i j bi bj)
+
   pub shares-level : level pot weights (shares pot weights) ≡ true
   unfolding level
   shares-level =
       every-from (length weights) _ (λ i bi. every-from (length weights) _ (λ j bj.
       le-leb (total weights * at (shares pot weights) i + pot * at weights j) (total weights * at (shares pot weights) j + pot * at weights i + total weights)
-      (omega (arith, scaled i bi, scaled j bj, exact pot weights positive i, exact pot weights positive j, cents-level i j bi bj))))
+      (none-ahead i j bi bj)))
 
 -- sizes are not refused exactly where they are fine
 pub size-exactly : (pot w : ℕ) → (sizeRefusal pot w ≡ 0) ↔ FineSize pot w

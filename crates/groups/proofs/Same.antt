@@ -16,7 +16,7 @@ use Rattle.answer.specs.Turns.{refuse, turns}
 use Rattle.answer.proofs.Turns.{turns-eq}
 use Rattle.division.specs.Limits.{sizeRefusal}
 use Rattle.division.specs.Shares.{shares}
-use Rattle.groups.specs.Groups.{among, Pots, weightsIn, amount, amountInAll, groupRefusal, groupsInTurn, potsOf, Grouped}
+use Rattle.groups.specs.Groups.{among, Pots, weightsIn, amount, amountInAll, groupRefusal, groupsInTurn, potsOf}
 use Rattle.groups.specs.Columns.{ColumnWritten}
 
 -- what is written, where the values and the answer are the same

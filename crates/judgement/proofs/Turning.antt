@@ -1,11 +1,11 @@
 -- The judgement as the code takes it, each look behind the answer so far.
 -- Assumes nothing.
-use mathlib.Core.Path.{_≡_, refl, sym, ap, ap₂, _∙_}
+use mathlib.Core.Path.{_≡_, sym, ap, ap₂, _∙_}
 use mathlib.Core.Logic.{_⊎_, inl, inr, ⊎-elim, _≢_}
 use mathlib.Core.Bool.{true, false}
 use mathlib.Core.List.{List}
 use Prim.Native.Nat.{ℕ, _+_, _*_, _/_, _≤_, _<_}
-use native.Mathlib.Nat.{div-lt-iff-lt-mul, le-antisymm}
+use native.Mathlib.Nat.{div-lt-iff-lt-mul}
 use native.Mathlib.Omega.{arith}
 use lib.Dec.{ltb}
 use borrow.Author.Tests.{lt-ltb, le-ltb}
@@ -13,8 +13,8 @@ use Rattle.lists.proofs.Ranks.{lt-or-le}
 use Rattle.answer.specs.declared.Answer.{Answer}
 use Rattle.answer.specs.Numbers.{MONTH, CHARGES, CREDITS}
 use Rattle.answer.specs.Numbers as numbers
-use Rattle.answer.specs.Turns.{accepted, refuse, _then_, turns, first}
-use Rattle.answer.proofs.Turns.{then-first, then-second, then-none, refuse-number, turns-suc}
+use Rattle.answer.specs.Turns.{accepted, refuse, _then_, first}
+use Rattle.answer.proofs.Turns.{then-first, then-second, then-none, refuse-number}
 use Rattle.month.specs.declared.Month.{Month}
 use Rattle.month.specs.declared.Made.the-variants as calendar
 use Rattle.month.specs.Months.{madeOf}
@@ -22,7 +22,7 @@ use Rattle.month.proofs.Months.{made-good, made-bad}
 use Rattle.tables.specs.declared.Head.{Head}
 use Rattle.tables.specs.declared.Table.{Table}
 use Rattle.tables.specs.declared.Table.the-variants.{Owners, Accounts}
-use Rattle.tables.specs.Shape.{tableCount, tableAt, number, chargeWidth, creditWidth, rows, Tables, wordsOf}
+use Rattle.tables.specs.Shape.{number, chargeWidth, creditWidth, rows, Tables, wordsOf}
 use Rattle.tables.specs.Counts.{countsInTurn, roomFor, tablesInTurn}
 use Rattle.rows.specs.Rows.{rowOf}
 use Rattle.judgement.specs.declared.Judged.{Judged}

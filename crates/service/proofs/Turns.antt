@@ -52,11 +52,12 @@ module _ (s : Service) where
   unfolding splitRefusal
   split-is z n why = why-size (s .pot z) (total (bothUses s)) n why .0
 
-  share-base : (z : ℕ) → shareRefusal s z ≡ BASE → (0 < zoneSide s z) × (total (weightsIn (zoneSides s) z) ≡ 0)
+  -- a share has no base exactly where there is a zone side and no zone part to divide it by
+  pub share-base : (z : ℕ) → shareRefusal s z ≡ BASE → (0 < zoneSide s z) × (total (weightsIn (zoneSides s) z) ≡ 0)
   unfolding shareRefusal groupRefusal
   share-base z e = only-base (size-why (zoneSide s z) (total (weightsIn (zoneSides s) z)) BASE e (omega arith)) refl
 
-  share-is : (z : ℕ) → splitRefusal s z ≡ 0 → 0 < zoneSide s z → total (weightsIn (zoneSides s) z) ≡ 0 → shareRefusal s z ≡ BASE
+  pub share-is : (z : ℕ) → splitRefusal s z ≡ 0 → 0 < zoneSide s z → total (weightsIn (zoneSides s) z) ≡ 0 → shareRefusal s z ≡ BASE
   unfolding shareRefusal groupRefusal
   share-is z fine some none =
       why-size (zoneSide s z) (total (weightsIn (zoneSides s) z)) BASE (by-base refl (zone-side-fits s z fine) some none) .0

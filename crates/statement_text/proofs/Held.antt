@@ -18,7 +18,7 @@ use Rattle.fileread.specs.Calls.{readAnswer, Reads, countIn, wordsRead, tablesR
 use Rattle.monthfile.specs.Refused.{Full}
 use Rattle.monthfile.proofs.ReadCalls.{outcome-full}
 use Rattle.monthfile.proofs.RoundTrips.{TextRead, text-read}
-use Rattle.pool.specs.Input.{Input, monthOf}
+use Rattle.pool.specs.Input.{monthOf}
 use Rattle.statement_lines.specs.Lines.{refuseLine}
 use Rattle.statement_text.specs.Statement.{monthHeld, settledText, foundText}
 

@@ -16,7 +16,7 @@ use Rattle.lists.proofs.Sums.{le-sum, sum-eq, sum-swap}
 use Rattle.lists.proofs.Entries.{length-listed, at-listed}
 use Rattle.answer.specs.declared.Answer.{Answer}
 use Rattle.tables.specs.declared.Table.the-variants.{Owners, Accounts}
-use Rattle.tables.specs.Shape.{limit, chargeWidth, creditWidth}
+use Rattle.tables.specs.Shape.{chargeWidth, creditWidth}
 use Rattle.tables.specs.Columns.{ownerNumber, accountNumber}
 use Rattle.text.specs.Bytes.{bytes}
 use Rattle.text.specs.Numbers.{Found, found, missing, bound, Below}

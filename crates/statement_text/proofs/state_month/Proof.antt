@@ -2,13 +2,10 @@
 -- its lines.
 -- Assumes nothing.
 use mathlib.Core.Path.{_≡_, subst}
-use mathlib.Core.List.{map}
 use Prim.Native.Nat.{ℕ}
-use lib.ListN.{length, replicate, length-replicate}
+use lib.ListN.{length-replicate}
 use denote.Ref.{now}
 use borrow.Author.Needs.{needs}
-use Rattle.tables.specs.Shape.{tablesFrom}
-use Rattle.pool.specs.Input.{Input, monthOf}
 use Rattle.statement_text.specs.Calls.{Shows}
 use Rattle.statement_text.proofs.Stating.{month-refused, month-figured, month-stated}
 use Rattle.statement_text.proofs.state_month.Statement.{statement}
