@@ -46,10 +46,10 @@ enum noketualo_refusal_number {
 #define NOKETUALO_LARGEST_WEIGHT_SUM UINT64_C(10000000000000)
 
 /* A longer month file is refused as a whole: its statement is refuse=1,0,0. */
-#define NOKETUALO_MOST_FILE_BYTES 32768
+#define NOKETUALO_MOST_FILE_BYTES 65536
 
 /* Room that is enough for every statement, which is proved. */
-#define NOKETUALO_STATEMENT_ROOM 10128
+#define NOKETUALO_STATEMENT_ROOM 12144
 
 /* How many bytes a list of that many numbers takes. */
 #define NOKETUALO_BYTES(numbers) ((size_t)(numbers) * 8u)

@@ -39,10 +39,10 @@ pub const LARGEST_POT: u64 = 100_000_000_000;
 pub const LARGEST_WEIGHT_SUM: u64 = 10_000_000_000_000;
 
 /// The most bytes that a month file may have; the statement of a longer one is `refuse=1,0,0`.
-pub const MOST_FILE_BYTES: usize = 32_768;
+pub const MOST_FILE_BYTES: usize = 65_536;
 
 /// Room that is enough for every statement, which is proved.
-pub const STATEMENT_ROOM: usize = 10_128;
+pub const STATEMENT_ROOM: usize = 12_144;
 
 /// Divides the pot, in cents, by the weights, and returns the shares in their order.
 ///
@@ -180,7 +180,7 @@ pub fn check_bytes(pot: u64, weights: &[u8], amounts: &[u8]) -> Result<bool, Ref
 /// line `refuse=number,table,row` where the file or its month is refused.
 ///
 /// ```
-/// let file = b"month=2\ndays=30\nnonzone=0\nend=0\n";
+/// let file = b"month=2\ndays=30\nnonzone=0\ndaily=0\nweekly=0\nmonthly=0\nweekday=1\nend=0\n";
 /// assert_eq!(noketualo::statement(file), b"refuse=3,0,0\n");
 /// ```
 pub fn statement(text: &[u8]) -> Vec<u8> {

@@ -39,7 +39,7 @@ cargo rustc --release --offline --lib --crate-type staticlib -- \
 "$clang" -O1 -g -Wall -Wextra -fsanitize=fuzzer,address fuzz/harness.c \
     "$archive" "$work/cargo/release/libsecond.a" -lpthread -ldl -lm -o "$work/fuzzer"
 
-# A start for a fuzzer that has none: months and damaged files, and case S, which is edit 161.
+# A start for a fuzzer that has none: months and damaged files, and case S, which is edit 198.
 if [[ -z "$(ls -A "$work/corpus")" ]]; then
     cargo build --release --offline --bin made
     for index in $(seq 0 199); do
@@ -47,11 +47,11 @@ if [[ -z "$(ls -A "$work/corpus")" ]]; then
             "$work/cargo/release/made" 1 "$kind" "$index" >"$work/corpus/$kind-$index"
         done
     done
-    "$work/cargo/release/made" 1 edit 161 >"$work/corpus/case-s"
+    "$work/cargo/release/made" 1 edit 198 >"$work/corpus/case-s"
     # 100 cents by 1, 2, 4, room for three, and 14, 29, 57 to check
     printf '/\x18\x00\x18\x00\x18\x00d\0\0\0\0\0\0\0\x01\0\0\0\0\0\0\0\x02\0\0\0\0\0\0\0\x04\0\0\0\0\0\0\0\x0e\0\0\0\0\0\0\0\x1d\0\0\0\0\0\0\0\x39\0\0\0\0\0\0\0' \
         >"$work/corpus/division"
 fi
 
-exec "$work/fuzzer" -dict=fuzz/month.dict -max_len=33000 -max_total_time="$seconds" \
+exec "$work/fuzzer" -dict=fuzz/month.dict -max_len=66000 -max_total_time="$seconds" \
     -artifact_prefix="$work/" -print_final_stats=1 "$work/corpus"

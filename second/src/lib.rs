@@ -9,7 +9,7 @@
 //! files to compare on.
 //!
 //! ```
-//! let text = b"month=4\ndays=30\nnonzone=0\nend=0\n";
+//! let text = b"month=4\ndays=30\nnonzone=0\ndaily=0\nweekly=0\nmonthly=0\nweekday=1\nend=0\n";
 //! assert_eq!(second::statement::statement(text), b"total=0,0\n");
 //! ```
 

@@ -4,28 +4,28 @@
 mod aims;
 mod damage;
 mod defects;
+mod firm;
 mod good;
 mod numbers;
 
 pub use good::{good, Sizes};
 pub use numbers::Numbers;
 
-use crate::month_file::{write_line, KEYS};
-use crate::settle::unit_month;
-use crate::tables::{Head, Tables, LIMITS, WIDTHS};
+use crate::month_file::{write_head, write_line};
+use crate::settle::{unit_month, CHARGES, CREDITS};
+use crate::tables::{Head, Tables, ACCOUNTS, FORMS, LOADS, OWNERS, RESERVATIONS, ZONES};
 
 /// The paper's case S, whole input.
-pub const CASE_S: &[u8] = b"month=4\ndays=30\nnonzone=0\nzone=1,365000\nowner=1,1,200\n\
-    owner=2,1,100\nunit=1,2,1,1,12000,0\naccount=1,70,1\naccount=2,71,0\nload=1,1,10\n\
-    load=1,2,10\nptp=2,480,0\nend=9\n";
+pub const CASE_S: &[u8] = b"month=4\ndays=30\nnonzone=0\ndaily=0\nweekly=0\nmonthly=0\nweekday=1\n\
+    zone=1,365000\nowner=1,1,200\nowner=2,1,100\nunit=1,2,1,1,12000,0\naccount=1,70,1\n\
+    account=2,71,0\nload=1,1,10\nload=1,2,10\nptp=2,480,0\nend=9\n";
 
-/// Positions of tables 1 to 6.
-pub const ZONES: usize = 0;
-pub const OWNERS: usize = 1;
-pub const UNITS: usize = 2;
-pub const ACCOUNTS: usize = 3;
-pub const LOADS: usize = 4;
-pub const RESERVATIONS: usize = 5;
+/// A month with firm rows of every term and MISO rows, a week at its bound and cents of halves.
+pub const FIRM_CASE: &[u8] =
+    b"month=4\ndays=30\nnonzone=0\ndaily=1005\nweekly=3000\nmonthly=9000\n\
+    weekday=3\nzone=1,0\nowner=1,1,200\nowner=2,1,100\naccount=1,70,1\naccount=2,71,0\n\
+    firm=1,1,0,1,15\nfirm=1,1,0,2,15\nfirm=1,1,0,5,15\nfirm=1,1,0,6,15\nfirm=1,1,1,3,1000000\n\
+    firm=1,2,0,28,3\nfirm=1,3,0,1,7\nfirm=2,1,0,1,1\nfirm=2,1,0,4,1\nfirm=2,1,0,6,1\nend=15\n";
 
 /// A row of any table, which has no more entries than a unit's.
 pub type Row = [u64; 6];
@@ -34,7 +34,7 @@ pub type Row = [u64; 6];
 #[derive(Clone, Debug, Default)]
 pub struct Made {
     pub head: Head,
-    pub rows: [Vec<Row>; 6],
+    pub rows: [Vec<Row>; FORMS.len()],
 }
 
 /// A made-up month: good, aimed at a division, or with faults in its tables.
@@ -64,15 +64,15 @@ pub fn call(seed: u64, index: u64) -> (Head, Tables, usize, usize) {
     let mut numbers = Numbers::from_seed(seed, 2, index);
     let made = month(seed, numbers.any());
     let mut tables = made.tables();
-    let mut charges_len = 3 * made.rows[ACCOUNTS].len();
-    let mut credits_len = 4 * made.rows[OWNERS].len();
+    let mut charges_len = CHARGES * made.rows[ACCOUNTS].len();
+    let mut credits_len = CREDITS * made.rows[OWNERS].len();
     for _ in 0..numbers.one_of(&[1, 1, 1, 2]) {
-        let table = numbers.position_below(6);
+        let table = numbers.position_below(FORMS.len());
         match numbers.below(5) {
             0 => charges_len = charges_len.saturating_sub(1),
             1 => credits_len = credits_len.saturating_sub(1),
             2 => tables[table].push(numbers.up_to(9)),
-            3 => tables[table].resize(LIMITS[table] * WIDTHS[table] + WIDTHS[table], 0),
+            3 => tables[table].resize(FORMS[table].full_size() + FORMS[table].width, 0),
             _ => (charges_len, credits_len) = (charges_len + 1, credits_len + 1),
         }
     }
@@ -101,7 +101,7 @@ impl Made {
     pub fn tables(&self) -> Tables {
         std::array::from_fn(|table| {
             let rows = self.rows[table].iter();
-            rows.flat_map(|row| &row[..WIDTHS[table]])
+            rows.flat_map(|row| &row[..FORMS[table].width])
                 .copied()
                 .collect()
         })
@@ -110,12 +110,10 @@ impl Made {
     /// The month's file, whatever its rows are and however many.
     pub fn text(&self) -> Vec<u8> {
         let mut text = Vec::new();
-        write_line(&mut text, "month", &[self.head.month]);
-        write_line(&mut text, "days", &[self.head.days]);
-        write_line(&mut text, "nonzone", &[self.head.non_zone_rate]);
-        for table in 0..6 {
-            for row in &self.rows[table] {
-                write_line(&mut text, KEYS[table], &row[..WIDTHS[table]]);
+        write_head(&mut text, &self.head);
+        for (form, rows) in FORMS.iter().zip(&self.rows) {
+            for row in rows {
+                write_line(&mut text, form.key, &row[..form.width]);
             }
         }
         let rows: usize = self.rows.iter().map(Vec::len).sum();

@@ -1,27 +1,28 @@
 //! "Month file": reading and writing, which "judge no range".
 
 use crate::refusal::{Refusal, COUNT, ROOM, TEXT};
-use crate::tables::{judge_counts, Head, Tables, LIMITS, WIDTHS};
+use crate::tables::{judge_counts, Head, Tables, FORMS, HEAD_KEYS};
 
-/// The keys of tables 1 to 6.
-pub const KEYS: [&str; 6] = ["zone", "owner", "unit", "account", "load", "ptp"];
+/// How many entries each table is lent with.
+pub type Lent = [usize; FORMS.len()];
 
-/// How many entries tables 1 to 6 have when "lent at full size".
-pub const FULL_SIZE: [usize; 6] = [32, 192, 384, 96, 2_976, 96];
+/// "Tables lent at full size."
+pub fn full_size() -> Lent {
+    FORMS.map(|form| form.full_size())
+}
 
 /// Reads a month file into tables lent with so many entries.
-pub fn read(text: &[u8], lent: &[usize; 6]) -> Result<(Head, Tables), Refusal> {
-    for position in 0..6 {
-        if lent[position] < FULL_SIZE[position] {
-            return Err((ROOM, position as u64 + 1, 0));
+pub fn read(text: &[u8], lent: &Lent) -> Result<(Head, Tables), Refusal> {
+    for (form, &lent) in FORMS.iter().zip(lent) {
+        if lent < form.full_size() {
+            return Err((ROOM, form.number, 0));
         }
     }
     let mut offset = 0;
-    let head = Head {
-        month: head_line(text, &mut offset, "month")?,
-        days: head_line(text, &mut offset, "days")?,
-        non_zone_rate: head_line(text, &mut offset, "nonzone")?,
-    };
+    let mut head = [0; HEAD_KEYS.len()];
+    for (number, key) in head.iter_mut().zip(HEAD_KEYS) {
+        *number = head_line(text, &mut offset, key)?;
+    }
     let mut tables = Tables::default();
     let mut rows = 0;
     // A table's lines come before those of the next, so the tables before this one are finished.
@@ -37,14 +38,15 @@ pub fn read(text: &[u8], lent: &[usize; 6]) -> Result<(Head, Tables), Refusal> {
             if next != text.len() {
                 return Err((TEXT, 0, next as u64));
             }
-            return Ok((head, tables));
+            return Ok((Head::from_numbers(head), tables));
         }
-        let (found, row) = (table..6)
-            .find_map(|table| Some((table, fields(line, KEYS[table], WIDTHS[table])?)))
+        let (found, row) = (table..FORMS.len())
+            .find_map(|table| Some((table, fields(line, FORMS[table].key, FORMS[table].width)?)))
             .ok_or(misfit)?;
         table = found;
-        if tables[table].len() == LIMITS[table] * WIDTHS[table] {
-            return Err((COUNT, table as u64 + 1, LIMITS[table] as u64));
+        let form = &FORMS[table];
+        if tables[table].len() == form.full_size() {
+            return Err((COUNT, form.number, form.limit as u64));
         }
         tables[table].extend(row);
         rows += 1;
@@ -56,13 +58,11 @@ pub fn read(text: &[u8], lent: &[usize; 6]) -> Result<(Head, Tables), Refusal> {
 pub fn write(head: Head, tables: &Tables, lent: usize) -> Result<Vec<u8>, Refusal> {
     judge_counts(tables)?;
     let mut text = Vec::new();
-    write_line(&mut text, "month", &[head.month]);
-    write_line(&mut text, "days", &[head.days]);
-    write_line(&mut text, "nonzone", &[head.non_zone_rate]);
+    write_head(&mut text, &head);
     let mut rows = 0;
-    for table in 0..6 {
-        for row in tables[table].chunks_exact(WIDTHS[table]) {
-            write_line(&mut text, KEYS[table], row);
+    for (form, table) in FORMS.iter().zip(tables) {
+        for row in table.chunks_exact(form.width) {
+            write_line(&mut text, form.key, row);
             rows += 1;
         }
     }
@@ -71,6 +71,13 @@ pub fn write(head: Head, tables: &Tables, lent: usize) -> Result<Vec<u8>, Refusa
         return Err((ROOM, 0, 0));
     }
     Ok(text)
+}
+
+/// Adds the head's lines.
+pub fn write_head(text: &mut Vec<u8>, head: &Head) {
+    for (key, number) in HEAD_KEYS.iter().zip(head.numbers()) {
+        write_line(text, key, &[number]);
+    }
 }
 
 /// Adds `key=field,field` and a line feed.

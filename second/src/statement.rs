@@ -1,12 +1,12 @@
 //! "Statement": what the statement program prints for what it is given.
 
-use crate::month_file::{read, write_line, FULL_SIZE};
+use crate::month_file::{full_size, read, write_line};
 use crate::refusal::{Refusal, COUNT};
-use crate::settle::settle;
-use crate::tables::WIDTHS;
+use crate::settle::{settle, CHARGES, CREDITS};
+use crate::tables::{ACCOUNTS, FORMS, OWNERS};
 
-/// "The statement program reads at most 32,768 bytes."
-pub const MOST_BYTES: usize = 32_768;
+/// "The statement program now reads 65,536 bytes."
+pub const MOST_BYTES: usize = 65_536;
 
 /// The whole output for the whole input.
 pub fn statement(text: &[u8]) -> Vec<u8> {
@@ -17,24 +17,24 @@ pub fn statement(text: &[u8]) -> Vec<u8> {
     })
 }
 
-/// "Account and three charges; owner and four credits; all charges and all credits."
+/// "Account and three charges; owner and four credits; all charges and all credits", and "charge and
+/// credit rows and lines get a last figure".
 fn settled(text: &[u8]) -> Result<Vec<u8>, Refusal> {
     if text.len() > MOST_BYTES {
         return Err((COUNT, 0, 0));
     }
-    let (head, tables) = read(text, &FULL_SIZE)?;
-    let owners = tables[1].chunks(WIDTHS[1]);
-    let accounts = tables[3].chunks(WIDTHS[3]);
-    let (charges, credits) = settle(head, &tables, 3 * accounts.len(), 4 * owners.len())?;
+    let (head, tables) = read(text, &full_size())?;
+    let owners = tables[OWNERS].chunks(FORMS[OWNERS].width);
+    let accounts = tables[ACCOUNTS].chunks(FORMS[ACCOUNTS].width);
+    let (charges_len, credits_len) = (CHARGES * accounts.len(), CREDITS * owners.len());
+    let (charges, credits) = settle(head, &tables, charges_len, credits_len)?;
 
     let mut lines = Vec::new();
-    for (account, charges) in accounts.zip(charges.chunks(3)) {
-        let fields = [account[0], charges[0], charges[1], charges[2]];
-        write_line(&mut lines, "charge", &fields);
+    for (account, charges) in accounts.zip(charges.chunks(CHARGES)) {
+        write_line(&mut lines, "charge", &[&account[..1], charges].concat());
     }
-    for (owner, credits) in owners.zip(credits.chunks(4)) {
-        let fields = [owner[0], credits[0], credits[1], credits[2], credits[3]];
-        write_line(&mut lines, "credit", &fields);
+    for (owner, credits) in owners.zip(credits.chunks(CREDITS)) {
+        write_line(&mut lines, "credit", &[&owner[..1], credits].concat());
     }
     write_line(
         &mut lines,

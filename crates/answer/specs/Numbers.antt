@@ -61,3 +61,6 @@ CREDITS = 8
 
 abbrev pub DIVISIONS : ℕ
 DIVISIONS = 9
+
+abbrev pub FIRM : ℕ
+FIRM = 10

@@ -54,6 +54,8 @@ pub const CREDITS: u64 = 8;
 
 pub const DIVISIONS: u64 = 9;
 
+pub const FIRM: u64 = 10;
+
 // The answer with a number at a place; where the number is 0 nothing is refused and the place is 0 too.
 pub fn refused(number: u64, table: u64, row: u64) -> Answer
     ensures { λ r. ⌜ r ≡ refuse number table row ⌝ }

@@ -42,6 +42,12 @@ module _ (stride c : ℕ) (block : List ℕ) where
       length-take-le (n * stride) (drop (c * stride) block)
       (omega (arith, length-drop (c * stride) block, add-mul c n stride))
 
+  -- .. and so one of them
+  pub column-long : (c + 1) * stride ≤ length block → length (columnAt stride c block) ≡ stride
+  column-long h =
+      let one : stride ≡ 1 * stride = omega arith in
+      ap (λ k. length (take k (drop (c * stride) block))) one ∙ columns-long 1 h ∙ sym one
+
 -- a column in front does not see what stands behind
 front-column : (stride d : ℕ) (l r : List ℕ) → (d + 1) * stride ≤ length l → columnAt stride d (l ++ r) ≡ columnAt stride d l
 front-column stride d l r h =

@@ -13,12 +13,12 @@ use Rattle.fileform.specs.Reading.{got, refused, rowLines, headLines, tableLine
 use Rattle.fileform.specs.Writing.{rowsText, headsText, tablesText, fileText}
 
 abbrev caseText : List ℕ
-caseText = bytes "month=4\ndays=30\nnonzone=0\nzone=1,365000\nowner=1,1,200\nowner=2,1,100\nunit=1,2,1,1,12000,0\naccount=1,70,1\naccount=2,71,0\nload=1,1,10\nload=1,2,10\nptp=2,480,0\nend=9\n"
+caseText = bytes "month=4\ndays=30\nnonzone=0\ndaily=0\nweekly=0\nmonthly=0\nweekday=1\nzone=1,365000\nowner=1,1,200\nowner=2,1,100\nunit=1,2,1,1,12000,0\naccount=1,70,1\naccount=2,71,0\nload=1,1,10\nload=1,2,10\nptp=2,480,0\nend=9\n"
 
 abbrev caseContents : Contents
 caseContents =
     record {
-      head = 4 ∷ 30 ∷ 0 ∷ [];
+      head = 4 ∷ 30 ∷ 0 ∷ 0 ∷ 0 ∷ 0 ∷ 1 ∷ [];
       tables =
           record { count = 1; words = 1 ∷ 365000 ∷ [] }
           ∷ record { count = 2; words = 1 ∷ 1 ∷ 200 ∷ 2 ∷ 1 ∷ 100 ∷ [] }
@@ -26,6 +26,7 @@ caseContents =
           ∷ record { count = 2; words = 1 ∷ 70 ∷ 1 ∷ 2 ∷ 71 ∷ 0 ∷ [] }
           ∷ record { count = 2; words = 1 ∷ 1 ∷ 10 ∷ 1 ∷ 2 ∷ 10 ∷ [] }
           ∷ record { count = 1; words = 2 ∷ 480 ∷ 0 ∷ [] }
+          ∷ record { count = 0; words = [] }
           ∷ [];
     }
 
@@ -50,10 +51,15 @@ pub bent-zero : reading monthForm (bytes "month=4\ndays=030\n") ≡ refused (ref
 unfolding isDigit digitsOn firstNumber past field fields line rowLines headLines tableLines rowsInAll ending reading refuse
 bent-zero = refl
 
-pub bent-behind : reading monthForm (caseText ++ bytes "\n") ≡ refused (refuse TEXT 0 161)
+pub bent-behind : reading monthForm (caseText ++ bytes "\n") ≡ refused (refuse TEXT 0 198)
 unfolding isDigit digitsOn firstNumber past field fields line rowLines headLines tableLines rowsInAll ending reading refuse
 bent-behind = refl
 
-pub bent-number : reading monthForm (bytes "month=4\ndays=30\nnonzone=0\nend=1\n") ≡ refused (refuse TEXT 0 26)
+pub bent-number : reading monthForm (bytes "month=4\ndays=30\nnonzone=0\ndaily=0\nweekly=0\nmonthly=0\nweekday=1\nend=1\n") ≡ refused (refuse TEXT 0 63)
 unfolding isDigit digitsOn firstNumber past field fields line rowLines headLines tableLines rowsInAll ending reading refuse
 bent-number = refl
+
+-- .. and no weekday line
+pub bent-weekday : reading monthForm (bytes "month=4\ndays=30\nnonzone=0\ndaily=0\nweekly=0\nmonthly=0\nzone=1,365000\nend=1\n") ≡ refused (refuse TEXT 0 53)
+unfolding isDigit digitsOn firstNumber past field fields line rowLines headLines tableLines rowsInAll ending reading refuse
+bent-weekday = refl

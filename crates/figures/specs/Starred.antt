@@ -35,5 +35,5 @@ pub record Starred : Type 0 where
   pub M1 : twelfth 1 100 ∷ twelfth 2 100 ∷ twelfth 3 100 ∷ [] ≡ 8 ∷ 8 ∷ 9 ∷ []
   -- case S whole, bytes in and bytes out
   pub S :
-      statementOf (bytes "month=4\ndays=30\nnonzone=0\nzone=1,365000\nowner=1,1,200\nowner=2,1,100\nunit=1,2,1,1,12000,0\naccount=1,70,1\naccount=2,71,0\nload=1,1,10\nload=1,2,10\nptp=2,480,0\nend=9\n")
-      ≡ bytes "charge=1,2000,500,0\ncharge=2,0,500,0\ncredit=1,1333,0,0,0\ncredit=2,667,0,1000,0\ntotal=3000,3000\n"
+      statementOf (bytes "month=4\ndays=30\nnonzone=0\ndaily=0\nweekly=0\nmonthly=0\nweekday=1\nzone=1,365000\nowner=1,1,200\nowner=2,1,100\nunit=1,2,1,1,12000,0\naccount=1,70,1\naccount=2,71,0\nload=1,1,10\nload=1,2,10\nptp=2,480,0\nend=9\n")
+      ≡ bytes "charge=1,2000,500,0,0\ncharge=2,0,500,0,0\ncredit=1,1333,0,0,0,0\ncredit=2,667,0,1000,0,0\ntotal=3000,3000\n"

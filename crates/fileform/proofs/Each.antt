@@ -4,9 +4,9 @@ use mathlib.Core.Path.{_≡_, refl}
 use mathlib.Core.List.{List, [], _∷_}
 use Prim.Native.Nat.{ℕ, zero, suc, _+_, _≤_, _<_}
 use native.Mathlib.Omega.{arith}
-use lib.ListN.{length, getD, drop}
+use lib.ListN.{length, getD, drop, drop-of-length-le}
 use Rattle.tables.specs.declared.Table.{Table}
-use Rattle.tables.specs.declared.Table.the-variants.{Zones, Owners, Units, Accounts, Loads, Reservations}
+use Rattle.tables.specs.declared.Table.the-variants.{Zones, Owners, Units, Accounts, Loads, Reservations, Firm}
 use Rattle.tables.specs.Shape.{tableCount, tableAt, placeOf, Tables, wordsOf}
 use Rattle.fileform.specs.Each.{inOrder, tablesBy}
 
@@ -17,6 +17,7 @@ words-by f Units = refl
 words-by f Accounts = refl
 words-by f Loads = refl
 words-by f Reservations = refl
+words-by f Firm = refl
 
 -- tables that agree in each table are the same
 pub same-tables : (t u : Tables) → ((table : Table) → wordsOf t table ≡ wordsOf u table) → t ≡ u
@@ -29,6 +30,7 @@ same-tables t u same =
       accounts = same Accounts i;
       loads = same Loads i;
       reservations = same Reservations i;
+      firm = same Firm i;
     }
 
 pub order-at : {A : Type 0} (f : Table → A) (none : A) (table : Table) → getD (inOrder f) (placeOf table) none ≡ f table
@@ -38,6 +40,7 @@ order-at f none Units = refl
 order-at f none Accounts = refl
 order-at f none Loads = refl
 order-at f none Reservations = refl
+order-at f none Firm = refl
 
 -- from a place on: what stands there, and what stands from the next on
 pub order-drop : {A : Type 0} (f : Table → A) (k : ℕ) → k < tableCount → drop k (inOrder f) ≡ f (tableAt k) ∷ drop (k + 1) (inOrder f)
@@ -47,25 +50,21 @@ order-drop f (suc (suc zero)) h = refl
 order-drop f (suc (suc (suc zero))) h = refl
 order-drop f (suc (suc (suc (suc zero)))) h = refl
 order-drop f (suc (suc (suc (suc (suc zero))))) h = refl
-order-drop f (suc (suc (suc (suc (suc (suc k)))))) h = absurd (omega arith)
-
-drop-past : {A : Type 0} (l : List A) (k : ℕ) → length l ≤ k → drop k l ≡ []
-drop-past [] zero h = refl
-drop-past [] (suc k) h = refl
-drop-past (a ∷ l) zero h = absurd (omega arith)
-drop-past (a ∷ l) (suc k) h = drop-past l k (omega arith)
+order-drop f (suc (suc (suc (suc (suc (suc zero)))))) h = refl
+order-drop f (suc (suc (suc (suc (suc (suc (suc k))))))) h = absurd (omega arith)
 
 pub order-over : {A : Type 0} (f : Table → A) (k : ℕ) → tableCount ≤ k → drop k (inOrder f) ≡ []
-order-over f k h = drop-past (inOrder f) k h
+order-over f k h = drop-of-length-le (inOrder f) h
 
 -- a list of as many entries as there are tables, by their places
 pub by-places : {A : Type 0} (none : A) (l : List A) → length l ≡ tableCount → inOrder (λ table. getD l (placeOf table) none) ≡ l
-by-places none (a ∷ b ∷ c ∷ d ∷ f ∷ g ∷ []) e = refl
+by-places none (a ∷ b ∷ c ∷ d ∷ f ∷ g ∷ h ∷ []) e = refl
 by-places none [] e = absurd (let z : 0 ≡ tableCount = e in omega arith)
 by-places none (a ∷ []) e = absurd (let z : 1 ≡ tableCount = e in omega arith)
 by-places none (a ∷ b ∷ []) e = absurd (let z : 2 ≡ tableCount = e in omega arith)
 by-places none (a ∷ b ∷ c ∷ []) e = absurd (let z : 3 ≡ tableCount = e in omega arith)
 by-places none (a ∷ b ∷ c ∷ d ∷ []) e = absurd (let z : 4 ≡ tableCount = e in omega arith)
 by-places none (a ∷ b ∷ c ∷ d ∷ f ∷ []) e = absurd (let z : 5 ≡ tableCount = e in omega arith)
-by-places none (a ∷ b ∷ c ∷ d ∷ f ∷ g ∷ h ∷ l) e =
-    absurd (let z : suc (suc (suc (suc (suc (suc (suc (length l))))))) ≡ tableCount = e in omega arith)
+by-places none (a ∷ b ∷ c ∷ d ∷ f ∷ g ∷ []) e = absurd (let z : 6 ≡ tableCount = e in omega arith)
+by-places none (a ∷ b ∷ c ∷ d ∷ f ∷ g ∷ h ∷ i ∷ l) e =
+    absurd (let z : suc (suc (suc (suc (suc (suc (suc (suc (length l)))))))) ≡ tableCount = e in omega arith)

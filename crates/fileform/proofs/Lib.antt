@@ -5,6 +5,7 @@ pub mod RowLaws
 pub mod RowWalks
 pub mod Forms
 pub mod Contents
+pub mod KeyLaws
 pub mod Tables
 pub mod Refusals
 pub mod Reasons

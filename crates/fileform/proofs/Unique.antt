@@ -1,16 +1,21 @@
 -- The contracts determine the answers: two answers, and two lent memories after, that one of them allows are equal. Those of
--- what measures rows and writes them are `sized-unique` and `put-unique` of `text`.
+-- what measures first lines and rows and writes them are `sized-unique` and `put-at-unique` of `text`.
 -- Assumes nothing.
 use mathlib.Core.Path.{_≡_, sym, _∙_}
 use mathlib.Core.List.{List, []}
 use Prim.Native.Nat.{ℕ}
-use Rattle.text.specs.Numbers.{found}
+use Rattle.text.specs.Numbers.{Found, found}
 use Rattle.text.specs.Places.{FieldsTaken}
 use Rattle.text.proofs.Stores.{stored-none}
-use Rattle.text.proofs.Unique.{fields-taken-unique}
+use Rattle.text.proofs.Unique.{line-at-unique, fields-taken-unique}
 use Rattle.fileform.specs.declared.row.Counted.{Counted}
 use Rattle.fileform.specs.Reading.{RowsRead}
-use Rattle.fileform.specs.Calls.{CountedAt, RowsTaken}
+use Rattle.fileform.specs.Calls.{OneTaken, CountedAt, RowsTaken}
+
+-- `head::one_number`, `head::take_head`
+pub one-taken-unique : (s : List ℕ) (o : Found (List ℕ)) (lent : List ℕ) (place n m : ℕ) (after after′ : List ℕ)
+    → OneTaken s o lent place n after → OneTaken s o lent place m after′ → (n ≡ m) × (after ≡ after′)
+one-taken-unique s o lent place n m after after′ a b = (line-at-unique s o n m (a .line-is) (b .line-is), a .written ∙ sym (b .written))
 
 -- `table::count_table`, `row::count_rows`
 pub counted-at-unique : (s : List ℕ) (r : RowsRead) (c d : Counted) → CountedAt s r c → CountedAt s r d → c ≡ d

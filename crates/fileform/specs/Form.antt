@@ -2,11 +2,12 @@
 -- Assumes nothing.
 use Prim.Native.Nat.{ℕ}
 use mathlib.Core.List.{List, [], _∷_}
+use lib.ListN.{getD}
 use Rattle.text.specs.Bytes.{bytes}
 use Rattle.text.specs.Numbers.{Found}
 use Rattle.text.specs.Lines.{line, lineText}
 use Rattle.tables.specs.declared.Table.{Table}
-use Rattle.tables.specs.declared.Table.the-variants.{Zones, Owners, Units, Accounts, Loads, Reservations}
+use Rattle.tables.specs.declared.Table.the-variants.{Zones, Owners, Units, Accounts, Loads, Reservations, Firm}
 use Rattle.tables.specs.Shape.{number, width, limit}
 use Rattle.fileform.specs.Each.{inOrder}
 
@@ -52,7 +53,19 @@ pub record Form : Type 0 where
   pub kinds : List Kind
   pub last : List ℕ
 
--- "then all `zone`, `owner`, `unit`, `account`, `load`, `ptp` lines"
+-- "in this order: `month`, `days`, `nonzone`", and then the "head lines `daily`, `weekly`, `monthly`, `weekday` after `nonzone`"
+abbrev pub headKeys : List (List ℕ)
+headKeys =
+    bytes "month" ∷ bytes "days" ∷ bytes "nonzone" ∷ bytes "daily" ∷ bytes "weekly" ∷ bytes "monthly" ∷ bytes "weekday" ∷ []
+
+-- how many they are, and the one at a place
+abbrev pub headCount : ℕ
+headCount = 7
+
+abbrev pub headKey : ℕ → List ℕ
+headKey place = getD headKeys place []
+
+-- "then all `zone`, `owner`, `unit`, `account`, `load`, `ptp` lines", and "`firm` lines .. after `ptp`"
 abbrev pub lineKey : Table → List ℕ
 lineKey Zones = bytes "zone"
 lineKey Owners = bytes "owner"
@@ -60,16 +73,17 @@ lineKey Units = bytes "unit"
 lineKey Accounts = bytes "account"
 lineKey Loads = bytes "load"
 lineKey Reservations = bytes "ptp"
+lineKey Firm = bytes "firm"
 
 -- the rows of a table
 abbrev pub kindOf : Table → Kind
 kindOf t = plainKind (lineKey t) (width t) (limit t) (number t)
 
--- "in this order: `month`, `days`, `nonzone`, then all .. lines, then `end`"
+-- the head's lines, "then all .. lines, then `end`"
 abbrev pub monthForm : Form
 monthForm =
     record {
-      heads = bytes "month" ∷ bytes "days" ∷ bytes "nonzone" ∷ [];
+      heads = headKeys;
       kinds = inOrder kindOf;
       last = bytes "end";
     }

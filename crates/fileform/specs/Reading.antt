@@ -86,7 +86,7 @@ pub record Contents : Type 0 where
   pub head : List ℕ
   pub tables : List Rows
 
--- "the number of rows of tables 1 to 6"
+-- "the number of rows of tables 1 to 6", and of table 10, whose lines are "counted by `end`"
 unfoldable pub rowsInAll : List Rows → ℕ
 rowsInAll [] = 0
 rowsInAll (t ∷ ts) = t .count + rowsInAll ts

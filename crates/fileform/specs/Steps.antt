@@ -4,14 +4,12 @@ use mathlib.Core.Path.{_≡_}
 use mathlib.Core.List.{List}
 use Prim.Native.Nat.{ℕ, _≤_}
 use lib.ListN.{length, take}
-use Rattle.tables.specs.declared.Table.{Table}
-use Rattle.fileform.specs.Form.{lineKey}
 
 -- the length of the longest key
 abbrev pub longestKey : ℕ
 longestKey = 7
 
--- a table's key at the front of lent bytes, and its length
-pub record KeyPut (table : Table) (size : ℕ) (after : List ℕ) : Type 0 where
+-- a key at the front of lent bytes, and its length
+pub record KeyPut (key : List ℕ) (size : ℕ) (after : List ℕ) : Type 0 where
   pub inside : size ≤ length after
-  pub its : take size after ≡ lineKey table
+  pub its : take size after ≡ key

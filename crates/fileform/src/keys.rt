@@ -5,6 +5,14 @@ pub const DAYS: [u8; 4] = *b"days";
 
 pub const NONZONE: [u8; 7] = *b"nonzone";
 
+pub const DAILY: [u8; 5] = *b"daily";
+
+pub const WEEKLY: [u8; 6] = *b"weekly";
+
+pub const MONTHLY: [u8; 7] = *b"monthly";
+
+pub const WEEKDAY: [u8; 7] = *b"weekday";
+
 pub const ZONE: [u8; 4] = *b"zone";
 
 pub const OWNER: [u8; 5] = *b"owner";
@@ -16,6 +24,8 @@ pub const ACCOUNT: [u8; 7] = *b"account";
 pub const LOAD: [u8; 4] = *b"load";
 
 pub const PTP: [u8; 3] = *b"ptp";
+
+pub const FIRM: [u8; 4] = *b"firm";
 
 pub const END: [u8; 3] = *b"end";
 

@@ -4,7 +4,7 @@ ghost use Prim.Native.Nat.{suc, _+_, _*_, _≤_};
 ghost use lib.ListN.{length, drop};
 ghost use Rattle.tables.specs.Shape.{width};
 ghost use Rattle.text.specs.Places.{PutAt, Sized};
-ghost use Rattle.fileform.specs.Form.{kindOf, lineOf};
+ghost use Rattle.fileform.specs.Form.{lineKey, kindOf, lineOf};
 ghost use Rattle.fileform.specs.Reading.{rowLines};
 ghost use Rattle.fileform.specs.Calls.{CountedAt, RowsTaken, tableText};
 ghost use Rattle.fileform.specs.Steps.{longestKey, KeyPut};
@@ -16,7 +16,7 @@ use tables::Table;
 // Writes a table's key to the front of `out`, and answers its length.
 fn put_key(table: Table, out: &mut [u8]) -> usize
     requires { ⌜ longestKey ≤ length (now out) ⌝ }
-    ensures { λ r. ⌜ KeyPut table r (now (out .exit)) ⌝ }
+    ensures { λ r. ⌜ KeyPut (lineKey table) r (now (out .exit)) ⌝ }
 {
     match table {
         Table::Zones => text::line::put_bytes(&keys::ZONE, out, 0),
@@ -25,6 +25,7 @@ fn put_key(table: Table, out: &mut [u8]) -> usize
         Table::Accounts => text::line::put_bytes(&keys::ACCOUNT, out, 0),
         Table::Loads => text::line::put_bytes(&keys::LOAD, out, 0),
         Table::Reservations => text::line::put_bytes(&keys::PTP, out, 0),
+        Table::Firm => text::line::put_bytes(&keys::FIRM, out, 0),
     }
 }
 

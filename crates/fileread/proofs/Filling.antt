@@ -25,6 +25,11 @@ pub record Standing (s : List ℕ) (ts : List Rows) (rest : List ℕ) (place i :
   pub inside : i ≤ length s
   pub read : tableLines (drop place (monthForm .kinds)) (drop i s) ≡ got (drop place ts) rest
 
+-- a table's rows are stored, and the next table stands behind them
+pub record Took (table : Table) (s : List ℕ) (ts : List Rows) (rest words : List ℕ) (next : ℕ) (after : List ℕ) : Type 0 where
+  pub stands : Standing s ts rest (placeOf table + 1) next
+  pub taken : after ≡ stored words 0 (nth ts (placeOf table) .words)
+
 module _ (table : Table) {s : List ℕ} {ts : List Rows} {rest : List ℕ} {i : ℕ} (stands : Standing s ts rest (placeOf table) i) (count : ℕ)
     (counted : count ≡ nth ts (placeOf table) .count) where
   abbrev later : List Kind
@@ -60,7 +65,7 @@ module _ (table : Table) {s : List ℕ} {ts : List Rows} {rest : List ℕ} {i : 
   )
 
   module _ (words : List ℕ) (n : ℕ) (after : List ℕ) (t : RowsTaken s (rowLines (lineOf (kindOf table)) count (drop i s)) words n after) where
-    pub next-stands : Standing s ts rest (placeOf table + 1) n
+    next-stands : Standing s ts rest (placeOf table + 1) n
     next-stands =
         record {
           inside = t .inside;
@@ -71,9 +76,12 @@ module _ (table : Table) {s : List ℕ} {ts : List Rows} {rest : List ℕ} {i : 
               ∙ ap (λ l. got l rest) (drop-drop 1 (placeOf table) ts);
         }
 
-    pub table-taken : after ≡ stored words 0 (nth ts (placeOf table) .words)
+    table-taken : after ≡ stored words 0 (nth ts (placeOf table) .words)
     table-taken =
         t .written ∙ ap (λ (r : RowsRead). stored words 0 (r .words)) same-rows ∙ ap (λ (t : Rows). stored words 0 (t .words)) (sym table-is)
+
+    pub table-took : Took table s ts rest words n after
+    table-took = record { stands = next-stands; taken = table-taken }
 
 -- every table taken
 pub all-taken : (s : List ℕ) (body : ℕ) (lent after : Tables) (ts : List Rows) (rest : List ℕ) → Standing s ts rest 0 body

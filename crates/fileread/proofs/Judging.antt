@@ -14,7 +14,7 @@ use Rattle.answer.specs.declared.Answer.{Answer}
 use Rattle.answer.specs.Turns.{accepted}
 use Rattle.fileread.specs.declared.Reading.{Reading}
 use Rattle.fileread.specs.declared.judge.Walk.{Walk}
-use Rattle.fileform.specs.Form.{monthForm}
+use Rattle.fileform.specs.Form.{headCount, monthForm}
 use Rattle.fileform.specs.Reading.{got, refused, Rows, Contents, headLines, tableLines, rowsInAll, ending, reading}
 use Rattle.fileform.specs.Writing.{AllFit}
 use Rattle.fileread.specs.Calls.{countsOf, readAnswer}
@@ -73,15 +73,15 @@ module _ (s lent : List ℕ) (w : Walk) (head : List ℕ) (first : Walked s (hea
             let few : rowsInAll ts < 2 ^ 64 = month-rows ts (back .fit) in
             sym (added ∙ ap (λ n. min n (2 ^ 64 - 1)) rows-are ∙ min-eq-left (omega arith))
 
-        pub judged-whole : length lent ≡ 3 → (held : Reading) → held ≡ readingOf a head counts → TextJudged s held (w .at)
-        judged-whole three held q =
+        pub judged-whole : length lent ≡ headCount → (held : Reading) → held ≡ readingOf a head counts → TextJudged s held (w .at)
+        judged-whole room-head held q =
             let its : held .answer ≡ a = ap (λ (r : Reading). r .answer) q in
             let number : held .answer .number ≡ a .number = ap (λ (b : Answer). b .number) its in
             let contents : Contents = record { head = ns; tables = ts } in
             let all : held .answer .number ≡ 0 → reading monthForm s ≡ got contents [] =
             λ x. whole ∙ third .went-on (sym number ∙ x) contents all-rows in
             let hb : HeadsBack (monthForm .heads) s ns (drop (w .at) s) = heads-back (length s) (monthForm .heads) s ns (drop (w .at) s) (first .went-on z .1) in
-            let head-is : head ≡ ns = first .went-on z .2 ∙ stored-all lent ns (hb .one-each ∙ sym three) in
+            let head-is : head ≡ ns = first .went-on z .2 ∙ stored-all lent ns (hb .one-each ∙ sym room-head) in
             record {
               stopped = λ d. whole ∙ third .stopped (λ x. d (number ∙ x)) contents all-rows ∙ ap refused (sym its);
               answers = λ x. q ∙ ap (λ b. readingOf b head counts) (third .none (sym number ∙ x)) ∙ ap₂ (readingOf accepted) head-is counts-are

@@ -1,6 +1,6 @@
 -- Walks over first lines and tables: what is left from here on is what was to be read from the start, and where a walk stops.
 -- Assumes nothing.
-use mathlib.Core.Path.{_≡_, refl, sym, ap, ap₂, _∙_}
+use mathlib.Core.Path.{_≡_, refl, sym, ap, ap₂, subst, _∙_}
 use mathlib.Core.Logic.{_≢_}
 use mathlib.Core.List.{List, [], _∷_, _++_, append-assoc, append-nil, map-append}
 use Prim.Native.Nat.{ℕ, suc, _+_, _-_, _≤_, _<_}
@@ -15,7 +15,6 @@ use Rattle.answer.specs.Numbers as numbers
 use Rattle.answer.specs.Turns.{accepted, refuse}
 use Rattle.answer.proofs.Turns.{refuse-number}
 use Rattle.tables.specs.Shape.{tableCount, tableAt, number, limit}
-use Rattle.text.specs.Bytes.{bytes}
 use Rattle.text.specs.declared.reader.Ends.{Ends}
 use Rattle.text.specs.Numbers.{found, missing}
 use Rattle.text.specs.Lines.{line}
@@ -27,11 +26,12 @@ use Rattle.text.proofs.Places.{drop-next, drop-end}
 use Rattle.text.proofs.Stores.{stored-none, stored-one, stored-append, stored-is}
 use Rattle.fileform.specs.declared.row.Counted.{Counted}
 use Rattle.fileread.specs.declared.judge.Walk.{Walk}
-use Rattle.fileform.specs.Form.{Form, kindOf, monthForm}
+use Rattle.fileform.specs.Form.{Form, headKeys, headCount, headKey, kindOf, monthForm}
 use Rattle.fileform.specs.Reading.{Outcome, got, refused, onward, unfit, Rows, headLines, tableLines, Contents, rowsInAll, closed, ending, reading}
-use Rattle.fileform.specs.Calls.{CountedAt}
+use Rattle.fileform.specs.Calls.{OneTaken, CountedAt}
 use Rattle.fileread.specs.Calls.{countsOf}
-use Rattle.fileread.specs.Steps.{OneTaken, Walked, Ended}
+use Rattle.fileread.specs.Steps.{Walked, Ended}
+use Rattle.fileform.proofs.KeyLaws.{heads-drop, heads-over}
 use Rattle.fileform.proofs.Each.{order-drop, order-over}
 use Rattle.fileform.proofs.Forms.{heads-none, heads-on, heads-stop, tables-none, tables-on, tables-over, readOf, tableOf, ending-stop, ending-other, ending-on}
 
@@ -141,58 +141,64 @@ module _ (s : List ℕ) (o : Outcome (List ℕ)) (lent current : List ℕ) (i k 
       (heads-none (length s) (drop i s) ∙ ap (λ j. got [] (drop j s)) (sym (q .1)))
       (q .0) (rw (q .1) h)
 
--- the month file's: one reader steps over `month` and `days`, and `nonzone` follows
-abbrev first-lines : List ℕ → Outcome (List ℕ)
-first-lines s = headLines (length s) (monthForm .heads) s
+-- the month file's: one reader steps over `month` and `days`
+abbrev pub first-lines : List ℕ → Outcome (List ℕ)
+first-lines s = headLines (length s) headKeys s
 
-module _ (s lent : List ℕ) (ends : Ends) (a : EndsAt s 0 (bytes "month") (bytes "days") 1 ends) where
+module _ (s lent : List ℕ) (ends : Ends) (a : EndsAt s 0 (headKey 0) (headKey 1) 1 ends) where
   start : Walking (first-lines s) (first-lines s) itself lent lent 0
   start = walk-start itself refl itself-more (first-lines s) lent
 
   pub month-stop : ends .first ≡ 0 → (r : Walk) → (r .answer ≡ refuse numbers.TEXT numbers.HEAD 0) × (r .at ≡ 0) → (after : List ℕ)
       → Walked s (first-lines s) itself lent r after
-  month-stop z =
-      head-stop s (first-lines s) lent lent 0 0 (omega arith) (bytes "month") (bytes "days" ∷ bytes "nonzone" ∷ []) start (a .first-is .unfit z)
+  month-stop z = head-stop s (first-lines s) lent lent 0 0 (omega arith) (headKey 0) (drop 1 headKeys) start (a .first-is .unfit z)
 
   module _ (d : ends .first ≢ 0) where
-    pub month-there : line (bytes "month") 1 s ≢ missing
+    pub month-there : line (headKey 0) 1 s ≢ missing
     month-there e = never e (a .first-is .fits d .1)
 
-    month-next : (one : List ℕ) → one ≡ stored lent 0 (fieldsOf (line (bytes "month") 1 s))
-        → Walking (first-lines s) (headLines (length s) (bytes "days" ∷ bytes "nonzone" ∷ []) (drop (ends .first) s)) itself lent one 1
+    month-next : (one : List ℕ) → one ≡ stored lent 0 (fieldsOf (line (headKey 0) 1 s))
+        → Walking (first-lines s) (headLines (length s) (drop 1 headKeys) (drop (ends .first) s)) itself lent one 1
     month-next one e =
-        head-next s (first-lines s) lent lent 0 0 (omega arith) (bytes "month") (bytes "days" ∷ bytes "nonzone" ∷ []) start (ends .first)
-        (a .first-is .fits d .0) one (a .first-is .fits d .1) e
+        head-next s (first-lines s) lent lent 0 0 (omega arith) (headKey 0) (drop 1 headKeys) start (ends .first) (a .first-is .fits d .0) one
+        (a .first-is .fits d .1) e
 
     pub days-stop : ends .second ≡ ends .first → (r : Walk) → (r .answer ≡ refuse numbers.TEXT numbers.HEAD (ends .first)) × (r .at ≡ ends .first)
         → (after : List ℕ) → Walked s (first-lines s) itself lent r after
     days-stop z =
-        let one : List ℕ = stored lent 0 (fieldsOf (line (bytes "month") 1 s)) in
-        head-stop s (first-lines s) lent one (ends .first) 1 (a .first-is .inside d) (bytes "days") (bytes "nonzone" ∷ []) (month-next one refl)
+        let one : List ℕ = stored lent 0 (fieldsOf (line (headKey 0) 1 s)) in
+        head-stop s (first-lines s) lent one (ends .first) 1 (a .first-is .inside d) (headKey 1) (drop 2 headKeys) (month-next one refl)
         (a .second-is .unfit z)
 
     module _ (f : ends .second ≢ ends .first) where
-      pub days-there : line (bytes "days") 1 (drop (ends .first) s) ≢ missing
+      pub days-there : line (headKey 1) 1 (drop (ends .first) s) ≢ missing
       days-there e = never e (a .second-is .fits f .1)
 
-      module _ (one two : List ℕ) (e : one ≡ stored lent 0 (fieldsOf (line (bytes "month") 1 s)))
-          (g : two ≡ stored one 1 (fieldsOf (line (bytes "days") 1 (drop (ends .first) s)))) (n : ℕ) (three : List ℕ)
-          (t : OneTaken s (line (bytes "nonzone") 1 (drop (ends .second) s)) two 2 n three) where
-        days-next : Walking (first-lines s) (headLines (length s) (bytes "nonzone" ∷ []) (drop (ends .second) s)) itself lent two 2
-        days-next =
-            head-next s (first-lines s) lent one (ends .first) 1 (a .first-is .inside d) (bytes "days") (bytes "nonzone" ∷ []) (month-next one e) (ends .second)
-            (a .second-is .fits f .0) two (a .second-is .fits f .1) g
+      pub days-next : (one two : List ℕ) → one ≡ stored lent 0 (fieldsOf (line (headKey 0) 1 s))
+          → two ≡ stored one 1 (fieldsOf (line (headKey 1) 1 (drop (ends .first) s)))
+          → Walking (first-lines s) (headLines (length s) (drop 2 headKeys) (drop (ends .second) s)) itself lent two 2
+      days-next one two e g =
+          head-next s (first-lines s) lent one (ends .first) 1 (a .first-is .inside d) (headKey 1) (drop 2 headKeys) (month-next one e) (ends .second)
+          (a .second-is .fits f .0) two (a .second-is .fits f .1) g
 
-        pub nonzone-stop : n ≡ 0 → (r : Walk) → (r .answer ≡ refuse numbers.TEXT numbers.HEAD (ends .second)) × (r .at ≡ ends .second)
-            → (after : List ℕ) → Walked s (first-lines s) itself lent r after
-        nonzone-stop z =
-            head-stop s (first-lines s) lent two (ends .second) 2 (a .second-is .inside f) (bytes "nonzone") [] days-next (t .line-is .unfit z)
+-- .. and the others follow, each by its place
+module _ (s : List ℕ) (o : Outcome (List ℕ)) (lent current : List ℕ) (i k : ℕ)
+    (w : Walking o (headLines (length s) (drop k headKeys) (drop i s)) itself lent current k) (h : i ≤ length s) where
+  module _ (b : k < headCount) (n : ℕ) (next : List ℕ) (t : OneTaken s (line (headKey k) 1 (drop i s)) current k n next) where
+    opened-head : Walking o (headLines (length s) (headKey k ∷ drop (k + 1) headKeys) (drop i s)) itself lent current k
+    opened-head = subst (λ keys. Walking o (headLines (length s) keys (drop i s)) itself lent current k) (heads-drop k b) w
 
-        pub nonzone-end : n ≢ 0 → (r : Walk) → (r .answer ≡ accepted) × (r .at ≡ n) → Walked s (first-lines s) itself lent r three
-        nonzone-end b =
-            head-end s (first-lines s) lent three n 3 (t .line-is .inside)
-            (head-next s (first-lines s) lent two (ends .second) 2 (a .second-is .inside f) (bytes "nonzone") [] days-next n
-            (t .line-is .fits b .0) three (t .line-is .fits b .1) (t .written))
+    pub further-stop : n ≡ 0 → (r : Walk) → (r .answer ≡ refuse numbers.TEXT numbers.HEAD i) × (r .at ≡ i) → (after : List ℕ)
+        → Walked s o itself lent r after
+    further-stop z = head-stop s o lent current i k h (headKey k) (drop (k + 1) headKeys) opened-head (t .line-is .unfit z)
+
+    pub further-next : n ≢ 0 → Walking o (headLines (length s) (drop (k + 1) headKeys) (drop n s)) itself lent next (k + 1)
+    further-next d =
+        head-next s o lent current i k h (headKey k) (drop (k + 1) headKeys) opened-head n (t .line-is .fits d .0) next (t .line-is .fits d .1) (t .written)
+
+  pub further-end : headCount ≤ k → (r : Walk) → (r .answer ≡ accepted) × (r .at ≡ i) → Walked s o itself lent r current
+  further-end b =
+      head-end s o lent current i k h (subst (λ keys. Walking o (headLines (length s) keys (drop i s)) itself lent current k) (heads-over k b) w)
 
 -- the tables
 pub counts-more : (x y : List Rows) → countsOf (x ++ y) ≡ countsOf x ++ countsOf y

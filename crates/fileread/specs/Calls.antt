@@ -15,7 +15,7 @@ use Rattle.tables.specs.Shape.{number, tableCount, placeOf, width, limit, Table
 use Rattle.tables.specs.Counts.{tablesInTurn, roomFor}
 use Rattle.text.specs.Places.{stored}
 use Rattle.fileform.specs.Each.{tablesBy}
-use Rattle.fileform.specs.Form.{monthForm}
+use Rattle.fileform.specs.Form.{headCount, monthForm}
 use Rattle.fileform.specs.Reading.{Outcome, got, refused, Rows, nth, Contents, reading}
 use Rattle.fileread.specs.declared.Reading.{Reading}
 
@@ -30,9 +30,18 @@ readRoom lent = tablesInTurn (λ table. fullSize table (length (wordsOf lent tab
 unfoldable pub readOutcome : List ℕ → Tables → Outcome Contents
 readOutcome text lent = cond (eqb (readRoom lent .number) 0) (reading monthForm text) (refused (readRoom lent))
 
--- the head of the first lines' numbers: `month`, `days`, `nonzone`
+-- the head of the first lines' numbers: `month`, `days`, `nonzone`, `daily`, `weekly`, `monthly`, `weekday`
 abbrev pub headRead : List ℕ → Head
-headRead ns = record { month = at ns 0; days = at ns 1; nonzone = at ns 2 }
+headRead ns =
+    record {
+      month = at ns 0;
+      days = at ns 1;
+      nonzone = at ns 2;
+      daily = at ns 3;
+      weekly = at ns 4;
+      monthly = at ns 5;
+      weekday = at ns 6;
+    }
 
 -- "each table's number of rows"
 abbrev pub countsOf : List Rows → List ℕ
@@ -40,8 +49,7 @@ countsOf ts = map (λ (t : Rows). t .count) ts
 
 -- "An accepted read answers the head and each table's number of rows .. a refused one answers zeros for both"
 abbrev pub readAnswer : Outcome Contents → Reading
-readAnswer (refused a) =
-    record { answer = a; head = record { month = 0; days = 0; nonzone = 0 }; counts = replicate tableCount 0 }
+readAnswer (refused a) = record { answer = a; head = headRead (replicate headCount 0); counts = replicate tableCount 0 }
 readAnswer (got c rest) = record { answer = accepted; head = headRead (c .head); counts = countsOf (c .tables) }
 
 -- the tables that an outcome holds, none where it is refused

@@ -12,8 +12,7 @@ use Rattle.answer.specs.Turns.{accepted}
 use Rattle.tables.specs.declared.Table.{Table}
 use Rattle.tables.specs.Shape.{placeOf, width, limit, Tables, wordsOf}
 use Rattle.tables.specs.Counts.{tablesInTurn}
-use Rattle.text.specs.Numbers.{Found}
-use Rattle.text.specs.Places.{LineAt, fieldsOf, stored}
+use Rattle.text.specs.Places.{stored}
 use Rattle.fileform.specs.Form.{monthForm}
 use Rattle.fileform.specs.Reading.{Outcome, got, refused, Rows, nth, Contents, rowsInAll, tableLines, ending, reading}
 use Rattle.fileread.specs.declared.judge.Walk.{Walk}
@@ -31,11 +30,6 @@ pub record Body (s : List ℕ) (body : ℕ) (o : Outcome Contents) : Type 0 wher
   pub whole : o ≡ got contents []
   pub inside : body ≤ length s
   pub held : tableLines (monthForm .kinds) (drop body s) ≡ got (contents .tables) rest
-
--- a line's fields stored at a place, and the offset behind it; 0, and nothing stored, where it doesn't fit
-pub record OneTaken (s : List ℕ) (o : Found (List ℕ)) (lent : List ℕ) (place next : ℕ) (after : List ℕ) : Type 0 where
-  pub line-is : LineAt s o next
-  pub written : after ≡ stored lent place (fieldsOf o)
 
 -- the last line and what stands behind it, for contents with so many rows
 pub record Ended (key s rest : List ℕ) (rows : ℕ) (a : Answer) : Type 0 where

@@ -16,14 +16,16 @@ pub fn fill(
     accounts: &mut [u64],
     loads: &mut [u64],
     reservations: &mut [u64],
+    firm: &mut [u64],
 )
-    requires { ⌜ Ready (now text) body counts (tablesOf (now zones) (now owners) (now units) (now accounts) (now loads) (now reservations)) ⌝ }
-    ensures { λ r. ⌜ FilledFrom (now (text .entry)) body (tablesOf (now (zones .entry)) (now (owners .entry)) (now (units .entry)) (now (accounts .entry)) (now (loads .entry)) (now (reservations .entry))) (tablesOf (now (zones .exit)) (now (owners .exit)) (now (units .exit)) (now (accounts .exit)) (now (loads .exit)) (now (reservations .exit))) ⌝ }
+    requires { ⌜ Ready (now text) body counts (tablesOf (now zones) (now owners) (now units) (now accounts) (now loads) (now reservations) (now firm)) ⌝ }
+    ensures { λ r. ⌜ FilledFrom (now (text .entry)) body (tablesOf (now (zones .entry)) (now (owners .entry)) (now (units .entry)) (now (accounts .entry)) (now (loads .entry)) (now (reservations .entry)) (now (firm .entry))) (tablesOf (now (zones .exit)) (now (owners .exit)) (now (units .exit)) (now (accounts .exit)) (now (loads .exit)) (now (reservations .exit)) (now (firm .exit))) ⌝ }
 {
     let first = table::take_table(text, body, Table::Zones, counts[0], zones);
     let second = table::take_table(text, first, Table::Owners, counts[1], owners);
     let third = table::take_table(text, second, Table::Units, counts[2], units);
     let fourth = table::take_table(text, third, Table::Accounts, counts[3], accounts);
     let fifth = table::take_table(text, fourth, Table::Loads, counts[4], loads);
-    table::take_table(text, fifth, Table::Reservations, counts[5], reservations);
+    let sixth = table::take_table(text, fifth, Table::Reservations, counts[5], reservations);
+    table::take_table(text, sixth, Table::Firm, counts[6], firm);
 }

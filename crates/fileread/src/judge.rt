@@ -1,19 +1,20 @@
 // The first walk over a text: every line is judged, the rows are counted, and the numbers of the first lines taken.
 ghost use mathlib.Core.Path.{_≡_};
-ghost use Prim.Native.Nat.{_≤_, _<_};
+ghost use Prim.Native.Nat.{_≤_};
 ghost use lib.ListN.{length, drop};
 ghost use Rattle.answer.specs.Numbers as numbers;
 ghost use Rattle.answer.specs.Turns.{accepted, refuse};
 ghost use Rattle.tables.specs.Shape.{tableCount};
-ghost use Rattle.text.specs.Lines.{line};
-ghost use Rattle.fileform.specs.Form.{monthForm};
+ghost use Rattle.fileform.specs.Form.{headCount, monthForm};
 ghost use Rattle.fileform.specs.Reading.{refused, headLines, tableLines};
 ghost use Rattle.fileread.specs.Calls.{countsOf, readAnswer};
-ghost use Rattle.fileread.specs.Steps.{OneTaken, Walked, Ended, TextJudged, readingOf};
+ghost use Rattle.fileread.specs.Steps.{Walked, Ended, TextJudged, readingOf};
 use crate::Reading;
 use answer::Answer;
+use fileform::head;
 use fileform::keys;
 use fileform::table;
+use tables::HEADS;
 use tables::Head;
 use tables::TABLES;
 
@@ -47,22 +48,9 @@ fn fine(at: usize) -> Walk
     }
 }
 
-// The one number of the line at `at`, stored at a place, and the offset behind the line, 0 where it doesn't fit.
-fn one_number(text: &[u8], at: usize, key: &[u8], words: &mut [u64], place: usize) -> usize
-    requires { ⌜ place < length (now words) ⌝ }
-    ensures { λ r. ⌜ OneTaken (now (text .entry)) (line (now (key .entry)) 1 (drop at (now (text .entry)))) (now (words .entry)) place r (now (words .exit)) ⌝ }
-{
-    let next = text::reader::next_line(text, at, key, 1);
-    if next == 0 {
-        return 0;
-    }
-    text::reader::take_next_line(text, at, key, 1, words, place);
-    next
-}
-
-// The first lines in turn: one reader steps over `month` and `days`.
+// The first lines in turn: one reader steps over `month` and `days`, and the others follow by their place.
 fn judge_heads(text: &[u8], head: &mut [u64]) -> Walk
-    requires { ⌜ length (now head) ≡ 3 ⌝ }
+    requires { ⌜ length (now head) ≡ headCount ⌝ }
     ensures { λ r. ⌜ Walked (now (text .entry)) (headLines (length (now (text .entry))) (monthForm .heads) (now (text .entry))) (λ ns. ns) (now (head .entry)) r (now (head .exit)) ⌝ }
 {
     let ends = text::reader::next_two_lines(text, 0, &keys::MONTH, &keys::DAYS, 1);
@@ -76,11 +64,17 @@ fn judge_heads(text: &[u8], head: &mut [u64]) -> Walk
     }
     text::reader::take_next_line(text, 0, &keys::MONTH, 1, head, 0);
     text::reader::take_next_line(text, month, &keys::DAYS, 1, head, 1);
-    let nonzone = one_number(text, days, &keys::NONZONE, head, 2);
-    if nonzone == 0 {
-        return unfit(days);
+    let mut i = days;
+    let mut k = 2;
+    while k < HEADS {
+        let next = head::take_head(text, i, k, head);
+        if next == 0 {
+            return unfit(i);
+        }
+        i = next;
+        k += 1;
     }
-    fine(nonzone)
+    fine(i)
 }
 
 // The tables in turn, from `at` on; the number of each one's rows is stored in `counts`.
@@ -114,7 +108,7 @@ fn judge_end(text: &[u8], at: usize, total: u64) -> Answer
     ensures { λ r. ⌜ Ended (monthForm .last) (now (text .entry)) (drop at (now (text .entry))) total r ⌝ }
 {
     let mut number = [0u64; 1];
-    let next = one_number(text, at, &keys::END, &mut number, 0);
+    let next = head::one_number(text, at, &keys::END, &mut number, 0);
     if next == 0 {
         return answer::refused(answer::TEXT, answer::HEAD, at as u64);
     }
@@ -137,6 +131,10 @@ pub fn nothing_read(answer: Answer) -> Reading
             month: 0,
             days: 0,
             nonzone: 0,
+            daily: 0,
+            weekly: 0,
+            monthly: 0,
+            weekday: 0,
         },
         counts: [0; TABLES],
     }
@@ -159,7 +157,7 @@ fn stopped(answer: Answer) -> FirstWalk
 
 // What a text holds by its head and its counts, with the answer to its last line.
 fn found(answer: Answer, head: &[u64], counts: &[u64]) -> Reading
-    requires { ⌜ (length (now head) ≡ 3) × (length (now counts) ≡ tableCount) ⌝ }
+    requires { ⌜ (length (now head) ≡ headCount) × (length (now counts) ≡ tableCount) ⌝ }
     ensures { λ r. ⌜ r ≡ readingOf answer (now (head .entry)) (now (counts .entry)) ⌝ }
 {
     let rows = [
@@ -169,6 +167,7 @@ fn found(answer: Answer, head: &[u64], counts: &[u64]) -> Reading
         counts[3] as usize,
         counts[4] as usize,
         counts[5] as usize,
+        counts[6] as usize,
     ];
     Reading {
         answer,
@@ -176,6 +175,10 @@ fn found(answer: Answer, head: &[u64], counts: &[u64]) -> Reading
             month: head[0],
             days: head[1],
             nonzone: head[2],
+            daily: head[3],
+            weekly: head[4],
+            monthly: head[5],
+            weekday: head[6],
         },
         counts: rows,
     }
@@ -185,7 +188,7 @@ fn found(answer: Answer, head: &[u64], counts: &[u64]) -> Reading
 pub fn judge_text(text: &[u8]) -> FirstWalk
     ensures { λ r. ⌜ TextJudged (now (text .entry)) (r .held) (r .body) ⌝ }
 {
-    let mut head = [0u64; 3];
+    let mut head = [0u64; HEADS];
     let mut counts = [0u64; TABLES];
     let heads = judge_heads(text, &mut head);
     let first = heads.answer;

@@ -30,8 +30,9 @@ pub fn read(
     accounts: &mut [u64],
     loads: &mut [u64],
     reservations: &mut [u64],
+    firm: &mut [u64],
 ) -> Reading
-    ensures { λ r. ⌜ Reads (now (text .entry)) (tablesOf (now (zones .entry)) (now (owners .entry)) (now (units .entry)) (now (accounts .entry)) (now (loads .entry)) (now (reservations .entry))) (tablesOf (now (zones .exit)) (now (owners .exit)) (now (units .exit)) (now (accounts .exit)) (now (loads .exit)) (now (reservations .exit))) r ⌝ }
+    ensures { λ r. ⌜ Reads (now (text .entry)) (tablesOf (now (zones .entry)) (now (owners .entry)) (now (units .entry)) (now (accounts .entry)) (now (loads .entry)) (now (reservations .entry)) (now (firm .entry))) (tablesOf (now (zones .exit)) (now (owners .exit)) (now (units .exit)) (now (accounts .exit)) (now (loads .exit)) (now (reservations .exit)) (now (firm .exit))) r ⌝ }
 {
     let room = room::judge_room([
         zones.len(),
@@ -40,6 +41,7 @@ pub fn read(
         accounts.len(),
         loads.len(),
         reservations.len(),
+        firm.len(),
     ]);
     if room.number != answer::ACCEPTED {
         return judge::nothing_read(room);
@@ -61,6 +63,7 @@ pub fn read(
         accounts,
         loads,
         reservations,
+        firm,
     );
     held
 }

@@ -20,9 +20,9 @@ use Rattle.fileform.specs.Reading.{Rows, Contents}
 use Rattle.fileform.specs.Writing.{fileText}
 use Rattle.filewrite.specs.declared.Written.{Written}
 
--- the numbers of the first lines: `month`, `days`, `nonzone`
+-- the numbers of the first lines: `month`, `days`, `nonzone`, `daily`, `weekly`, `monthly`, `weekday`
 abbrev pub numbersOf : Head → List ℕ
-numbersOf head = head .month ∷ head .days ∷ head .nonzone ∷ []
+numbersOf head = head .month ∷ head .days ∷ head .nonzone ∷ head .daily ∷ head .weekly ∷ head .monthly ∷ head .weekday ∷ []
 
 -- a table's whole rows
 abbrev pub wholeRows : Tables → Table → Rows

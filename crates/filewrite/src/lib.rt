@@ -9,6 +9,7 @@ use tables::Head;
 use tables::TABLES;
 
 mod put;
+mod rows;
 
 // What `write` answers: the refusal or acceptance, and the text's length.
 pub struct Written {

@@ -7,54 +7,58 @@ ghost use Rattle.tables.specs.Shape.{tablesFrom};
 ghost use Rattle.text.specs.Lines.{lineText};
 ghost use Rattle.text.specs.Places.{PutAt, Sized};
 ghost use Rattle.fileform.specs.Form.{monthForm};
-ghost use Rattle.fileform.specs.Reading.{rowsInAll};
 ghost use Rattle.fileform.specs.Writing.{headsText, tablesText};
 ghost use Rattle.filewrite.specs.Calls.{numbersOf, allRows, monthText};
-ghost use Rattle.filewrite.specs.Steps.{RowsCounted};
+use crate::rows;
+use fileform::head;
 use fileform::keys;
 use fileform::table;
+use tables::HEADS;
 use tables::Head;
 use tables::TABLES;
-use tables::Table;
 
-// How many whole rows a table has.
-fn rows_of(table: Table, words: &[u64]) -> u64
-    ensures { λ r. ⌜ RowsCounted table (now (words .entry)) r ⌝ }
+// The numbers of the first lines.
+fn numbers_of(head: Head) -> [u64; HEADS]
+    ensures { λ r. ⌜ r ≡ numbersOf head ⌝ }
 {
-    tables::rows_in(table, words.len()) as u64
+    [
+        head.month,
+        head.days,
+        head.nonzone,
+        head.daily,
+        head.weekly,
+        head.monthly,
+        head.weekday,
+    ]
 }
 
-// How many rows there are in all.
-fn rows_in_all<'a>(tables: [&'a [u64]; TABLES]) -> u64
-    ensures { λ r. ⌜ r ≡ rowsInAll (allRows (tablesFrom (map now (tables .entry)))) ⌝ }
-{
-    let mut rows: u64 = 0;
-    let mut k = 0;
-    while k < TABLES {
-        let words = tables[k];
-        rows += rows_of(tables::table_at(k), words);
-        k += 1;
-    }
-    rows
-}
-
+// The first lines in turn, measured.
 fn heads_size(head: Head, cap: usize) -> usize
     ensures { λ r. ⌜ Sized 0 (headsText (monthForm .heads) (numbersOf head)) cap r ⌝ }
 {
-    let numbers = [head.month, head.days, head.nonzone];
-    let first = text::line::line_size(&keys::MONTH, &numbers, 0, 1, 0, cap);
-    let second = text::line::line_size(&keys::DAYS, &numbers, 1, 1, first, cap);
-    text::line::line_size(&keys::NONZONE, &numbers, 2, 1, second, cap)
+    let numbers = numbers_of(head);
+    let mut size = 0;
+    let mut k = 0;
+    while k < HEADS {
+        size = head::head_size(k, numbers[k], size, cap);
+        k += 1;
+    }
+    size
 }
 
+// The first lines in turn, written.
 fn put_heads(head: Head, out: &mut [u8]) -> usize
     requires { ⌜ 0 + length (headsText (monthForm .heads) (numbersOf head)) ≤ length (now out) ⌝ }
     ensures { λ r. ⌜ PutAt (now (out .entry)) 0 (headsText (monthForm .heads) (numbersOf head)) r (now (out .exit)) ⌝ }
 {
-    let numbers = [head.month, head.days, head.nonzone];
-    let first = text::line::put_line(&keys::MONTH, &numbers, 0, 1, out, 0);
-    let second = text::line::put_line(&keys::DAYS, &numbers, 1, 1, out, first);
-    text::line::put_line(&keys::NONZONE, &numbers, 2, 1, out, second)
+    let numbers = numbers_of(head);
+    let mut i = 0;
+    let mut k = 0;
+    while k < HEADS {
+        i = head::put_head(k, numbers[k], out, i);
+        k += 1;
+    }
+    i
 }
 
 // The tables in turn, measured.
@@ -109,7 +113,7 @@ pub fn text_size<'a>(head: Head, tables: [&'a [u64]; TABLES], cap: usize) -> usi
 {
     let heads = heads_size(head, cap);
     let rows = tables_size(tables, heads, cap);
-    end_size(rows_in_all(tables), rows, cap)
+    end_size(rows::rows_in_all(tables), rows, cap)
 }
 
 // Writes a month's text to the front of `out`, and answers its length.
@@ -119,5 +123,5 @@ pub fn put_text<'a>(head: Head, tables: [&'a [u64]; TABLES], out: &mut [u8]) -> 
 {
     let heads = put_heads(head, out);
     let rows = put_tables(tables, out, heads);
-    put_end(rows_in_all(tables), out, rows)
+    put_end(rows::rows_in_all(tables), out, rows)
 }

@@ -134,6 +134,6 @@ pub statement-without-room : (text before after : List ℕ) (r : ℕ) → HostSt
     → (r ≡ word ROOM 0) × (after ≡ before)
 statement-without-room = stating.statement-without-room
 
--- `mostShown` bytes, 10,128, are enough for every statement
+-- `mostShown` bytes, 12,144, are enough for every statement
 pub always-room : (text before : List ℕ) → mostShown ≤ length before → length (statementOf text) ≤ length before
 always-room text before room = le-trans (statement-is-short text) room

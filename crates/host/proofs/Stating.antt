@@ -14,7 +14,7 @@ use Rattle.answer.proofs.Turns.{refuse-none, refuse-number}
 use Rattle.text.specs.Places.{stored}
 use Rattle.text.proofs.Stores.{stored-in-front, stored-none}
 use Rattle.statement_lines.specs.declared.Shown.{Shown}
-use Rattle.statement_text.specs.Statement.{statementOf}
+use Rattle.statement_text.specs.Statement.{mostShown, statementOf}
 use Rattle.statement_text.specs.Calls.{fitting, Shows}
 use Rattle.statement_text.proofs.Promises.{statement-is-short}
 use Rattle.host.specs.Calls.{word, HostStated}
@@ -22,7 +22,7 @@ use Rattle.fileform.proofs.Rooms.{room-short, room-enough}
 use Rattle.statement_lines.proofs.Showing.{fitting-all, fitting-none, fitting-short}
 
 module _ (text before after : List ℕ) (s : Shown) (shows : Shows (statementOf text) before after s) where
-  pub length-small : s .length ≤ 10128
+  pub length-small : s .length ≤ mostShown
   length-small =
       le-trans (le-of-eq (shows .length-is)) (le-trans (fitting-short (statementOf text) (length before)) (statement-is-short text))
 

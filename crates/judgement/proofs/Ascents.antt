@@ -1,4 +1,5 @@
 -- Rows of which each stands above the one before stand above every earlier one. By induction on the later row; the order is transitive.
+-- And a row stands above another by the first entry of the key in which the two differ.
 -- Assumes nothing.
 use mathlib.Core.Path.{_≡_, sym, subst, _∙_}
 use mathlib.Core.Logic.{_⊎_, inl, inr, ⊎-elim, _↔_}
@@ -53,39 +54,54 @@ above-transitive t table i j k p q =
     (eq-or-lt-of-le l))
     (lt-or-le (p .column) (q .column))
 
--- where the key is the first entry, a row stands above another by its first entry ..
-module _ (t : Tables) (table : Table) (one : keyColumns table ≡ 1) (j i : ℕ) where
-  by-first : (c : ℕ) → c < 1 → entry table c (wordsOf t table) j < entry table c (wordsOf t table) i → entry table 0 (wordsOf t table) j < entry table 0 (wordsOf t table) i
-  by-first zero h l = l
-  by-first (suc c) h l = absurd (omega arith)
+-- two rows, given by their columns: by the first n columns in turn the second stands above the first. It has more in the first of
+-- them, or the same there and stands above by the columns behind it
+abbrev pub AboveBy : ℕ → (ℕ → ℕ) → (ℕ → ℕ) → Type 0
+AboveBy zero lower upper = ⊥
+AboveBy (suc zero) lower upper = lower 0 < upper 0
+AboveBy (suc (suc n)) lower upper = (lower 0 < upper 0) ⊎ ((lower 0 ≡ upper 0) × AboveBy (suc n) (λ c. lower (suc c)) (λ c. upper (suc c)))
 
-  pub first-above : Above t table j i ↔ (entry table 0 (wordsOf t table) j < entry table 0 (wordsOf t table) i)
-  first-above = (
-    (λ a. by-first (a .column) (subst (λ n. a .column < n) one (a .in-key)) (a .larger)),
-    λ l. record { column = 0; in-key = omega (arith, one); same-before = λ c h. absurd (not-suc-le-zero h); larger = l },
-  )
+-- a column that decides is the first of them that differs
+abbrev Decides : ℕ → (ℕ → ℕ) → (ℕ → ℕ) → ℕ → Type 0
+Decides n lower upper column = (column < n) × ((c : ℕ) → c < column → lower c ≡ upper c) × (lower column < upper column)
+
+decided : (n : ℕ) (lower upper : ℕ → ℕ) (column : ℕ) → Decides n lower upper column → AboveBy n lower upper
+decided zero lower upper column d = absurd (not-suc-le-zero (d .0))
+decided (suc zero) lower upper zero d = d .2
+decided (suc zero) lower upper (suc column) d = absurd (omega (arith, d .0))
+decided (suc (suc n)) lower upper zero d = inl (d .2)
+decided (suc (suc n)) lower upper (suc column) d =
+    inr (d .1 0 (omega arith), decided (suc n) (λ c. lower (suc c)) (λ c. upper (suc c)) column (omega (arith, d .0), (λ c h. d .1 (suc c) (omega arith)), d .2))
+
+decides : (n : ℕ) (lower upper : ℕ → ℕ) → AboveBy n lower upper → (column : ℕ) × Decides n lower upper column
+decides zero lower upper r = absurd r
+decides (suc zero) lower upper r = (0, (omega arith, (λ c h. absurd (not-suc-le-zero h)), r))
+decides (suc (suc n)) lower upper (inl l) = (0, (omega arith, (λ c h. absurd (not-suc-le-zero h)), l))
+decides (suc (suc n)) lower upper (inr r) =
+    let behind = decides (suc n) (λ c. lower (suc c)) (λ c. upper (suc c)) (r .1) in
+    (suc (behind .0), (omega (arith, behind .1 .0), same (behind .0) (behind .1 .1), behind .1 .2))
+  where
+    same : (column : ℕ) → ((c : ℕ) → c < column → lower (suc c) ≡ upper (suc c)) → (c : ℕ) → c < suc column → lower c ≡ upper c
+    same column rest zero h = r .0
+    same column rest (suc c) h = rest c (omega arith)
+
+-- a row stands above another by the entries of the key in turn ..
+pub above-by-columns : (t : Tables) (table : Table) (j i : ℕ)
+    → Above t table j i ↔ AboveBy (keyColumns table) (λ c. entry table c (wordsOf t table) j) (λ c. entry table c (wordsOf t table) i)
+above-by-columns t table j i = (
+  (λ a. decided (keyColumns table) _ _ (a .column) (a .in-key, a .same-before, a .larger)),
+  λ r.
+      let found = decides (keyColumns table) _ _ r in
+      record { column = found .0; in-key = found .1 .0; same-before = found .1 .1; larger = found .1 .2 },
+)
+
+-- .. where the key is the first entry, by that one ..
+pub first-above : (t : Tables) (table : Table) → keyColumns table ≡ 1 → (j i : ℕ) → Above t table j i ↔ (entry table 0 (wordsOf t table) j < entry table 0 (wordsOf t table) i)
+first-above t table one j i = rw one at (above-by-columns t table j i)
 
 -- .. and a load by account, then day
-module _ (t : Tables) (j i : ℕ) where
-  abbrev ByAccountAndDay : Type 0
-  ByAccountAndDay =
-      (loadAccount (t .loads) j < loadAccount (t .loads) i)
-      ⊎ ((loadAccount (t .loads) j ≡ loadAccount (t .loads) i) × (loadDay (t .loads) j < loadDay (t .loads) i))
-
-  by-account-and-day : (c : ℕ) → c < 2 → ((k : ℕ) → k < c → entry Loads k (t .loads) j ≡ entry Loads k (t .loads) i) → entry Loads c (t .loads) j < entry Loads c (t .loads) i → ByAccountAndDay
-  by-account-and-day zero h same l = inl l
-  by-account-and-day (suc zero) h same l = inr (same 0 (omega arith), l)
-  by-account-and-day (suc (suc c)) h same l = absurd (omega arith)
-
-  pub load-above : Above t Loads j i ↔ ((loadAccount (t .loads) j < loadAccount (t .loads) i) ⊎ ((loadAccount (t .loads) j ≡ loadAccount (t .loads) i) × (loadDay (t .loads) j < loadDay (t .loads) i)))
-  load-above = (
-    (λ a. by-account-and-day (a .column) (a .in-key) (a .same-before) (a .larger)),
-    λ r. ⊎-elim
-        (λ l. record { column = 0; in-key = omega arith; same-before = λ c h. absurd (not-suc-le-zero h); larger = l })
-        (λ p. record { column = 1; in-key = omega arith; same-before = λ c h. only-first c h (p .0); larger = p .1 })
-        r,
-  )
-    where
-      only-first : (c : ℕ) → c < 1 → loadAccount (t .loads) j ≡ loadAccount (t .loads) i → entry Loads c (t .loads) j ≡ entry Loads c (t .loads) i
-      only-first zero h e = e
-      only-first (suc c) h e = absurd (omega arith)
+pub load-above : (t : Tables) (j i : ℕ)
+    → Above t Loads j i
+    ↔ ((loadAccount (t .loads) j < loadAccount (t .loads) i)
+    ⊎ ((loadAccount (t .loads) j ≡ loadAccount (t .loads) i) × (loadDay (t .loads) j < loadDay (t .loads) i)))
+load-above t = above-by-columns t Loads

@@ -11,22 +11,21 @@ use Rattle.answer.specs.Numbers.{COUNT, ROOM, MONTH, RANGE, CHARGES, CREDITS}
 use Rattle.answer.specs.Numbers as numbers
 use Rattle.answer.specs.Turns.{look, refuse, first, refusal}
 use Rattle.answer.proofs.Turns.{zero-or-not, first-none, first-all, first-refused, RefusedAt}
-use Rattle.month.specs.Limits.{mostRate}
 use Rattle.month.specs.Months.{isMonth}
 use Rattle.month.specs.Calendar.{InCalendar}
 use Rattle.month.proofs.Promises.{month-exactly}
 use Rattle.tables.specs.declared.Head.{Head}
 use Rattle.tables.specs.declared.Table.{Table}
 use Rattle.tables.specs.declared.Table.the-variants.{Owners, Accounts}
-use Rattle.tables.specs.Shape.{number, chargeWidth, creditWidth, rows, Tables, wordsOf}
-use Rattle.rows.specs.Rows.{outside, rowOf}
+use Rattle.tables.specs.Shape.{placeOf, number, chargeWidth, creditWidth, rows, Tables, wordsOf}
+use Rattle.rows.specs.Rows.{rowOf}
 use Rattle.tables.specs.Counts.{counted, countsInTurn, roomFor, GoodCount}
-use Rattle.judgement.specs.Judgement.{headLooked, headJudged, rowsJudged, judged}
+use Rattle.judgement.specs.Judgement.{headOutside, headLooked, headJudged, rowsJudged, judged}
 use Rattle.judgement.specs.Good.{GoodRow, GoodTable, Roomy, GoodFrame, GoodMonth}
-use Rattle.judgement.specs.Refused.{FirstBroken, by-range, by-order, by-link, by-pair, Refused, by-count, by-charges, by-credits, by-month, by-nonzone, by-row}
+use Rattle.judgement.specs.Refused.{FirstBroken, by-range, by-order, by-link, by-pair, Refused, by-count, by-charges, by-credits, by-month, by-head, by-row}
 use Rattle.tables.proofs.Tests.{at-least}
-use Rattle.judgement.proofs.Keeping.{within, count-tested}
-use Rattle.judgement.proofs.Rulings.{Ruling, fine, broken, row-ruled}
+use Rattle.judgement.proofs.Keeping.{count-tested}
+use Rattle.judgement.proofs.Rulings.{head-range, Ruling, fine, broken, row-ruled}
 use Rattle.tables.proofs.Stages.{Stage, passed, stopped, passed-on, then-stage, refuse-stage, look-stage, in-turn-stage}
 
 -- a row that is numbered 0 is good, and one that is not breaks the rule of its number
@@ -74,17 +73,14 @@ module _ (head : Head) (t : Tables) (lentCharges lentCredits : ℕ) where
   unfolding headLooked
   frame all roomy = go (isMonth (head .month) (head .days)) refl
     where
-      go : (m : Bool) → isMonth (head .month) (head .days) ≡ m → Stage (GoodFrame head t lentCharges lentCredits) Why (refuse (look (not m) MONTH (look (outside 0 mostRate (head .nonzone)) RANGE 0)) numbers.HEAD 0)
+      go : (m : Bool) → isMonth (head .month) (head .days) ≡ m → Stage (GoodFrame head t lentCharges lentCredits) Why (refuse (look (not m) MONTH (look (headOutside head) RANGE 0)) numbers.HEAD 0)
       go false e = refuse-stage MONTH numbers.HEAD 0 (λ z. absurd (omega arith)) (λ d. by-month refl all roomy (no-month e))
       go true e =
           let known = month-exactly (head .month) (head .days) .0 e in
-          passed-on (λ w. record { counted = all; roomy = roomy; month-known = known; nonzone-in-range = w })
-          (look-stage RANGE numbers.HEAD 0 (omega arith) (within 0 mostRate (head .nonzone))
-          (λ out.
-          let high : ¬ (head .nonzone ≤ mostRate) = λ l. out (record { least = omega arith; most = l }) in
-          by-nonzone refl all roomy known (omega arith)))
+          passed-on (λ w. record { counted = all; roomy = roomy; month-known = known; head-in-range = w })
+          (look-stage RANGE numbers.HEAD 0 (omega arith) (head-range head) (by-head refl all roomy known))
 
-  table-rows : GoodFrame head t lentCharges lentCredits → (table : Table) → ((earlier : Table) → number earlier < number table → GoodTable (head .days) t earlier) → Stage (GoodTable (head .days) t table) Why (rowsJudged (head .days) t table)
+  table-rows : GoodFrame head t lentCharges lentCredits → (table : Table) → ((earlier : Table) → placeOf earlier < placeOf table → GoodTable (head .days) t earlier) → Stage (GoodTable (head .days) t table) Why (rowsJudged (head .days) t table)
   unfolding rowsJudged
   table-rows good table before =
       ⊎-elim
@@ -144,5 +140,5 @@ module _ (head : Head) (t : Tables) (lentCharges lentCredits : ℕ) where
   month-why a (by-charges e all short) z = absurd (omega (arith, ap (λ (b : Answer). b .number) e))
   month-why a (by-credits e all fit short) z = absurd (omega (arith, ap (λ (b : Answer). b .number) e))
   month-why a (by-month e all roomy bad) z = bad
-  month-why a (by-nonzone e all roomy m high) z = absurd (omega (arith, ap (λ (b : Answer). b .number) e))
+  month-why a (by-head e all roomy known out) z = absurd (omega (arith, ap (λ (b : Answer). b .number) e))
   month-why a (by-row table i n e at) z = absurd (broken-not-month table i n (at .broken) (sym (ap (λ (b : Answer). b .number) e) ∙ z))

@@ -2,7 +2,7 @@
 -- Assumes nothing.
 use mathlib.Core.Path.{_≡_, refl, sym, ap, subst, _∙_}
 use mathlib.Core.Logic.{⊎-elim, _≢_}
-use mathlib.Core.Bool.{Bool, true, false, not, cond, _&&_, _||_, and-eq-true-iff}
+use mathlib.Core.Bool.{Bool, true, false, true≢false, not, cond, _&&_, _||_, and-eq-true-iff}
 use mathlib.Core.List.{List}
 use Prim.Native.Nat.{ℕ, _+_, _-_, _%_, _<_}
 use native.Mathlib.Omega.{arith}
@@ -18,7 +18,7 @@ use Rattle.tables.specs.declared.Table.{Table}
 use Rattle.tables.specs.Shape.{keyColumns, width, limit, rows, Tables, wordsOf}
 use Rattle.tables.specs.Counts.{GoodCount}
 use Rattle.tables.specs.Columns.{entry, accountCustomer, accountZone}
-use Rattle.month.specs.Limits.{reactive, mostReserve, reserveLimit}
+use Rattle.month.specs.Limits.{reactive, mostReserve, reserveLimit, monthlyTerm, lastFirstDay}
 use Rattle.rows.specs.Rows.{outside, notAbove, above, rowAbove, names, unknown, samePair, taken}
 use Rattle.judgement.specs.Good.{Within, Above, Known, OwnPair}
 use Rattle.rows.proofs.Looks.{first-row, later-row, row-found}
@@ -54,6 +54,22 @@ reserve service x = go (eqb service reactive) refl
       holds = λ f. (within 0 mostReserve x .holds f, λ q. absurd (eqb-false service reactive e q));
       kept = λ p. within 0 mostReserve x .kept (p .0);
     }
+
+-- a second rule, tested where the first holds
+pub also : {P Q : Type 0} {s t : Bool} → Tests P s → (P → Tests Q t) → Tests (P × Q) (s || t)
+also {s = true} p q = record { holds = λ e. absurd (true≢false e); kept = λ r. absurd (true≢false (p .kept (r .0))) }
+also {s = false} p q = let rule = p .holds refl in record { holds = λ e. (rule, q rule .holds e); kept = λ r. q rule .kept (r .1) }
+
+-- "first day (1 for monthly)", of one of the month's days
+pub first-day : (term days x : ℕ) → Within 1 days x → Tests (term ≡ monthlyTerm → x ≡ 1) (outside 1 (lastFirstDay term days) x)
+first-day term days x day = go (eqb term monthlyTerm) refl
+  where
+    go : (t : Bool) → eqb term monthlyTerm ≡ t → Tests (term ≡ monthlyTerm → x ≡ 1) (outside 1 (cond t 1 days) x)
+    go true e = record {
+      holds = λ f q. let w : Within 1 1 x = within 1 1 x .holds f in omega arith;
+      kept = λ r. let first : x ≡ 1 = r (eqb-true term monthlyTerm e) in within 1 1 x .kept (omega arith);
+    }
+    go false e = record { holds = λ f q. absurd (eqb-false term monthlyTerm e q); kept = λ r. within 1 days x .kept day }
 
 -- ORDER: a row stands above the one before, where there is one
 pub above-before : {A : ℕ → ℕ → Type 0} (above : ℕ → ℕ → Bool) → ((j i : ℕ) → Tests (A j i) (not (above j i))) → (i : ℕ) → Tests ((j : ℕ) → i ≡ j + 1 → A j i) (notAbove above i)

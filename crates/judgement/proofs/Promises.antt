@@ -1,7 +1,7 @@
 -- What the judgement of a month's input promises.
 -- Assumes nothing.
 use mathlib.Core.Path.{_≡_, sym, ap, subst, _∙_}
-use mathlib.Core.Logic.{⊎-elim, _≢_, _↔_}
+use mathlib.Core.Logic.{_⊎_, ⊎-elim, _≢_, _↔_}
 use Prim.Native.Nat.{ℕ, _<_}
 use native.Mathlib.Omega.{arith}
 use Rattle.answer.specs.declared.Answer.{Answer}
@@ -9,20 +9,19 @@ use Rattle.answer.specs.Numbers.{MONTH}
 use Rattle.answer.specs.Turns.{accepted}
 use Rattle.answer.proofs.Turns.{zero-or-not}
 use Rattle.month.specs.declared.Month.{Month}
-use Rattle.month.specs.Limits.{mostRate}
 use Rattle.month.specs.Calendar.{InCalendar}
 use Rattle.tables.specs.declared.Head.{Head}
 use Rattle.tables.specs.declared.Table.{Table}
-use Rattle.tables.specs.declared.Table.the-variants.{Zones, Accounts}
+use Rattle.tables.specs.declared.Table.the-variants.{Zones, Accounts, Firm}
 use Rattle.tables.specs.Shape.{rows, Tables, wordsOf}
-use Rattle.tables.specs.Columns.{accountZone}
+use Rattle.tables.specs.Columns.{accountZone, firmAccount, firmTerm, firmMiso, firmDay}
 use Rattle.judgement.specs.Judgement.{judged, monthIn, goodOr, judgedAs, judgedAnswer}
 use Rattle.judgement.specs.declared.Judged.the-variants as outcome
-use Rattle.judgement.specs.Good.{Within, Above, Known, Linked, GoodRow, GoodTable, Roomy, GoodFrame, GoodMonth}
+use Rattle.judgement.specs.Good.{Above, Known, Linked, GoodRow, GoodTable, HeadInRange, Roomy, GoodFrame, GoodMonth}
 use Rattle.tables.specs.Counts.{GoodCount}
 use Rattle.judgement.specs.Refused.{Refused}
 use Rattle.judgement.proofs.Outcomes.{good-given, refused-given, good-told, refused-told}
-use Rattle.judgement.proofs.Ascents.{climb, above-transitive}
+use Rattle.judgement.proofs.Ascents.{climb, above-transitive, above-by-columns}
 use Rattle.judgement.proofs.Judging.{judged-good, judged-why, month-why}
 use Rattle.judgement.proofs.Reasons.{good-unrefused, judged-exactly}
 
@@ -73,12 +72,12 @@ module _ (head : Head) (t : Tables) (lentCharges lentCredits : ℕ) where
       (λ (d : judged head t lentCharges lentCredits .number ≢ 0). ap judgedAnswer (refused-given (monthIn head) (judged head t lentCharges lentCredits) d))
       (zero-or-not (judged head t lentCharges lentCredits .number))
 
-  -- before any row is looked at, all is right exactly where tables and outputs are, the month is the calendar's and the rate in range
+  -- before any row is looked at, all is right exactly where tables and outputs are, the month is the calendar's and the head in range
   pub frame-exactly : GoodFrame head t lentCharges lentCredits
-      ↔ (((table : Table) → GoodCount t table) × Roomy t lentCharges lentCredits × InCalendar (head .month) (head .days) × Within 0 mostRate (head .nonzone))
+      ↔ (((table : Table) → GoodCount t table) × Roomy t lentCharges lentCredits × InCalendar (head .month) (head .days) × HeadInRange head)
   frame-exactly = (
-    (λ good. (good .counted, good .roomy, good .month-known, good .nonzone-in-range)),
-    λ parts. record { counted = parts .0; roomy = parts .1; month-known = parts .2; nonzone-in-range = parts .3 },
+    (λ good. (good .counted, good .roomy, good .month-known, good .head-in-range)),
+    λ parts. record { counted = parts .0; roomy = parts .1; month-known = parts .2; head-in-range = parts .3 },
   )
 
   -- what is refused with MONTH is not the calendar's
@@ -86,10 +85,22 @@ module _ (head : Head) (t : Tables) (lentCharges lentCredits : ℕ) where
   month-refused-why e =
       month-why head t lentCharges lentCredits (judged head t lentCharges lentCredits) (judged-why head t lentCharges lentCredits (λ z. omega arith)) e
 
--- "Zones, owners, units, accounts and reservations strictly ascend by their first entry, loads by account, then day"
+-- "Zones, owners, units, accounts and reservations strictly ascend by their first entry, loads by account, then day", table 10
+-- "ascending by the first four": of two rows the later stands above the earlier ..
 pub strictly-ascend : (days : ℕ) (t : Tables) (table : Table) → GoodTable days t table → (i j : ℕ) → i < j → j < rows table (wordsOf t table) → Above t table i j
 strictly-ascend days t table good =
     climb (Above t table) (above-transitive t table) (rows table (wordsOf t table)) (λ i h. good i h .ascending)
+
+-- .. for a firm reservation by account, then term, then MISO delivery, then first day
+pub firm-above : (t : Tables) (j i : ℕ)
+    → Above t Firm j i
+    ↔ ((firmAccount (t .firm) j < firmAccount (t .firm) i)
+    ⊎ ((firmAccount (t .firm) j ≡ firmAccount (t .firm) i)
+    × ((firmTerm (t .firm) j < firmTerm (t .firm) i)
+    ⊎ ((firmTerm (t .firm) j ≡ firmTerm (t .firm) i)
+    × ((firmMiso (t .firm) j < firmMiso (t .firm) i)
+    ⊎ ((firmMiso (t .firm) j ≡ firmMiso (t .firm) i) × (firmDay (t .firm) j < firmDay (t .firm) i)))))))
+firm-above t = above-by-columns t Firm
 
 -- LINK and PAIR never compete: an account that shares customer and zone with an earlier good one names a zone that is there
 pub paired-linked : (days : ℕ) (t : Tables) (i j : ℕ) → GoodRow days t Accounts j → accountZone (t .accounts) j ≡ accountZone (t .accounts) i → Linked t Accounts i

@@ -12,23 +12,22 @@ use Rattle.answer.specs.Numbers.{COUNT, ROOM, MONTH, RANGE, CHARGES, CREDITS}
 use Rattle.answer.specs.Numbers as numbers
 use Rattle.answer.specs.Turns.{look, accepted, refuse, refusal, _then_}
 use Rattle.answer.proofs.Turns.{zero-or-not, look-fault, look-fine, then-on, then-stays, refuse-none, refuse-some, refuse-number, first-none, first-all, first-at}
-use Rattle.month.specs.Limits.{mostRate}
 use Rattle.month.specs.Months.{isMonth}
 use Rattle.month.specs.Calendar.{InCalendar}
 use Rattle.month.proofs.Promises.{month-exactly}
 use Rattle.tables.specs.declared.Head.{Head}
 use Rattle.tables.specs.declared.Table.{Table}
 use Rattle.tables.specs.declared.Table.the-variants.{Owners, Accounts}
-use Rattle.tables.specs.Shape.{number, chargeWidth, creditWidth, rows, Tables, wordsOf}
+use Rattle.tables.specs.Shape.{placeOf, number, chargeWidth, creditWidth, rows, Tables, wordsOf}
 use Rattle.tables.specs.Counts.{counted, countsInTurn, roomFor, tablesInTurn, GoodCount}
 use Rattle.tables.proofs.Tests.{Tests, at-least}
-use Rattle.tables.proofs.Stages.{Stage, passed, stopped, same-number, first-broken, in-turn-stage}
+use Rattle.tables.proofs.Stages.{Stage, passed, stopped, first-broken, in-turn-stage}
 use Rattle.rows.specs.Rows.{rowOf}
 use Rattle.judgement.specs.Judgement.{headLooked, headJudged, rowsJudged, judged}
-use Rattle.judgement.specs.Good.{GoodTable, Roomy, GoodFrame, GoodMonth}
-use Rattle.judgement.specs.Refused.{RowRefused, Refused, by-count, by-charges, by-credits, by-month, by-nonzone, by-row}
-use Rattle.judgement.proofs.Keeping.{faulty, within, count-tested}
-use Rattle.judgement.proofs.Rulings.{row-fine, row-number, broken-number}
+use Rattle.judgement.specs.Good.{GoodTable, HeadInRange, Roomy, GoodFrame, GoodMonth}
+use Rattle.judgement.specs.Refused.{RowRefused, Refused, by-count, by-charges, by-credits, by-month, by-head, by-row}
+use Rattle.judgement.proofs.Keeping.{faulty, count-tested}
+use Rattle.judgement.proofs.Rulings.{head-range, row-fine, row-number, broken-number}
 use Rattle.judgement.proofs.Judging.{judged-why}
 
 -- a look passes where its rule holds, and stops where it does not
@@ -40,10 +39,10 @@ look-stops : {Rule : Type 0} {fault : Bool} (n table row : ℕ) → n ≢ 0 → 
 look-stops {Rule} {fault} n table row d test broken =
     ap (λ k. refuse k table row) (look-fault fault n 0 (faulty test broken)) ∙ refuse-some n table row d
 
--- six tables in turn, of which those with number 0 are accepted: the first that is refused has the answer
+-- the tables in turn, of which those with number 0 are accepted: the first that is refused has the answer
 module _ (f : Table → Answer) (zero : (table : Table) → f table .number ≡ 0 → f table ≡ accepted) where
   abbrev First : Answer → Type 0
-  First a = (table : Table) × (a ≡ f table) × ((earlier : Table) → number earlier < number table → f earlier ≡ accepted)
+  First a = (table : Table) × (a ≡ f table) × ((earlier : Table) → placeOf earlier < placeOf table → f earlier ≡ accepted)
 
   abbrev Looked : Type 0
   Looked = Stage ((table : Table) → f table ≡ accepted) First (tablesInTurn f)
@@ -64,7 +63,7 @@ module _ (f : Table → Answer) (zero : (table : Table) → f table .number ≡ 
       go (passed e all) = e
       go (stopped d why) = why .1 ∙ fine (why .0)
 
-  table-stops : (table : Table) (r : Answer) → ((earlier : Table) → number earlier < number table → f earlier ≡ accepted)
+  table-stops : (table : Table) (r : Answer) → ((earlier : Table) → placeOf earlier < placeOf table → f earlier ≡ accepted)
       → f table ≡ r → r .number ≢ 0 → tablesInTurn f ≡ r
   table-stops table r before its bad = go looked
     where
@@ -73,10 +72,9 @@ module _ (f : Table → Answer) (zero : (table : Table) → f table .number ≡ 
       go (stopped d why) =
           why .1
           ∙ ap f
-          (same-number (why .0) table
           (first-broken (λ k. f k ≡ accepted) (why .0) table
           (why .2) (λ e. d (ap (λ (k : Answer). k .number) (why .1 ∙ e)))
-          before (λ e. bad (ap (λ (k : Answer). k .number) (sym its ∙ e)))))
+          before (λ e. bad (ap (λ (k : Answer). k .number) (sym its ∙ e))))
           ∙ its
 
 module _ (head : Head) (t : Tables) (lentCharges lentCredits : ℕ) where
@@ -140,14 +138,13 @@ module _ (head : Head) (t : Tables) (lentCharges lentCredits : ℕ) where
   unfolding headLooked
   no-month none = rw (not-month none) (refuse-some MONTH numbers.HEAD 0 (omega arith))
 
-  no-rate : InCalendar (head .month) (head .days) → mostRate < head .nonzone → headJudged head ≡ refusal RANGE numbers.HEAD 0
+  head-stops : InCalendar (head .month) (head .days) → ¬ HeadInRange head → headJudged head ≡ refusal RANGE numbers.HEAD 0
   unfolding headLooked
-  no-rate known high =
-      rw (is-month known) (look-stops RANGE numbers.HEAD 0 (omega arith) (within 0 mostRate (head .nonzone)) (λ in-range. omega (arith, in-range .most)))
+  head-stops known out = rw (is-month known) (look-stops RANGE numbers.HEAD 0 (omega arith) (head-range head) out)
 
   head-passes : GoodFrame head t lentCharges lentCredits → headJudged head ≡ accepted
   unfolding headLooked
-  head-passes good = rw (is-month (good .month-known)) (look-passes RANGE numbers.HEAD 0 (within 0 mostRate (head .nonzone)) (good .nonzone-in-range))
+  head-passes good = rw (is-month (good .month-known)) (look-passes RANGE numbers.HEAD 0 (head-range head) (good .head-in-range))
 
   -- the rows of a table
   rows-zero : (table : Table) → rowsJudged (head .days) t table .number ≡ 0 → rowsJudged (head .days) t table ≡ accepted
@@ -176,7 +173,7 @@ module _ (head : Head) (t : Tables) (lentCharges lentCredits : ℕ) where
   why-number a (by-charges e all short) z = omega (arith, ap (λ (b : Answer). b .number) e)
   why-number a (by-credits e all fit short) z = omega (arith, ap (λ (b : Answer). b .number) e)
   why-number a (by-month e all roomy bad) z = omega (arith, ap (λ (b : Answer). b .number) e)
-  why-number a (by-nonzone e all roomy known high) z = omega (arith, ap (λ (b : Answer). b .number) e)
+  why-number a (by-head e all roomy known out) z = omega (arith, ap (λ (b : Answer). b .number) e)
   why-number a (by-row table i n e why) z = broken-number (head .days) t table i n (why .broken) (sym (ap (λ (b : Answer). b .number) e) ∙ z)
 
   pub why-judged : (a : Answer) → Why a → judged head t lentCharges lentCredits ≡ a
@@ -193,7 +190,7 @@ module _ (head : Head) (t : Tables) (lentCharges lentCredits : ℕ) where
           then-stays d allRows
           (then-stays d headRead (then-on (then-on (counts-pass all) (room-passes CHARGES _ lentCharges fit)) (room-stops CREDITS _ lentCredits short ∙ sym e)))
       go (by-month e all roomy bad) d = then-stays d allRows (then-on (before-head all roomy) (no-month bad ∙ sym e))
-      go (by-nonzone e all roomy known high) d = then-stays d allRows (then-on (before-head all roomy) (no-rate known high ∙ sym e))
+      go (by-head e all roomy known out) d = then-stays d allRows (then-on (before-head all roomy) (head-stops known out ∙ sym e))
       go (by-row table i n e why) d =
           then-on (then-on (before-head (why .frame .counted) (why .frame .roomy)) (head-passes (why .frame)))
           (table-stops (rowsJudged (head .days) t) rows-zero table a (λ earlier l. rows-pass earlier (why .earlier-tables earlier l))

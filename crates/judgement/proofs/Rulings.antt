@@ -6,9 +6,10 @@ use mathlib.Core.Bool.{Bool, true, false}
 use mathlib.Core.List.{List}
 use Prim.Native.Nat.{ℕ}
 use native.Mathlib.Omega.{arith}
-use Rattle.month.specs.Limits.{mostRate, mostAnnual, mostLoad, mostEnergy, lastZone, lastOwner, lastUnit, lastAccount, lastCustomer, blackStart, reactive}
+use Rattle.month.specs.Limits.{mostRate, mostAnnual, mostLoad, mostEnergy, lastZone, lastOwner, lastUnit, lastAccount, lastCustomer, blackStart, reactive, dailyTerm, monthlyTerm, misoDelivery, mostCapacity, lastWeekday}
+use Rattle.tables.specs.declared.Head.{Head}
 use Rattle.tables.specs.declared.Table.{Table}
-use Rattle.tables.specs.declared.Table.the-variants.{Zones, Owners, Units, Accounts, Loads, Reservations}
+use Rattle.tables.specs.declared.Table.the-variants.{Zones, Owners, Units, Accounts, Loads, Reservations, Firm}
 use Rattle.tables.specs.Shape.{Tables, wordsOf}
 use Rattle.tables.specs.Columns.{
   zoneNumber,
@@ -31,14 +32,34 @@ use Rattle.tables.specs.Columns.{
   reservationAccount,
   reservationReserved,
   reservationCurtailed,
+  firmAccount,
+  firmTerm,
+  firmMiso,
+  firmDay,
+  firmCapacity,
 }
-use Rattle.rows.specs.Rows.{rowNumber, notAbove, zoneOutside, ownerOutside, unitOutside, accountOutside, loadOutside, reservationOutside, rowOutside, rowAbove, rowUnlinked, rowTaken, rowOf}
-use Rattle.judgement.specs.Good.{ZoneInRange, OwnerInRange, UnitInRange, AccountInRange, LoadInRange, ReservationInRange, InRange, Ascending, Linked, Unpaired, GoodRow}
+use Rattle.rows.specs.Rows.{rowNumber, notAbove, zoneOutside, ownerOutside, unitOutside, accountOutside, loadOutside, reservationOutside, firmOutside, rowOutside, rowAbove, rowUnlinked, rowTaken, rowOf}
+use Rattle.judgement.specs.Good.{ZoneInRange, OwnerInRange, UnitInRange, AccountInRange, LoadInRange, ReservationInRange, FirmInRange, InRange, Ascending, Linked, Unpaired, GoodRow, HeadInRange}
+use Rattle.judgement.specs.Judgement.{headOutside}
 use Rattle.judgement.specs.Refused.{FirstBroken, by-range, by-order, by-link, by-pair}
 use Rattle.tables.proofs.Tests.{Tests, breaks, reworded, no-rule, both}
-use Rattle.judgement.proofs.Keeping.{faulty, within, reserve, above-before, above-tested, known, unless-zero, own-pair}
+use Rattle.judgement.proofs.Keeping.{faulty, within, reserve, also, first-day, above-before, above-tested, known, unless-zero, own-pair}
 
--- RANGE, table by table
+-- RANGE of the head ..
+pub head-range : (head : Head) → Tests (HeadInRange head) (headOutside head)
+unfolding headOutside
+head-range head =
+    reworded
+    (λ p. record { nonzone = p .0 .0 .0 .0; daily = p .0 .0 .0 .1; weekly = p .0 .0 .1; monthly = p .0 .1; weekday = p .1 })
+    (λ r. ((((r .nonzone, r .daily), r .weekly), r .monthly), r .weekday))
+    (both
+    (both
+    (both (both (within 0 mostRate (head .nonzone)) (within 0 mostRate (head .daily)))
+    (within 0 mostRate (head .weekly)))
+    (within 0 mostRate (head .monthly)))
+    (within 1 lastWeekday (head .weekday)))
+
+-- .. and table by table
 zone-range : (zones : List ℕ) (i : ℕ) → Tests (ZoneInRange zones i) (zoneOutside zones i)
 unfolding zoneOutside
 zone-range zones i =
@@ -100,6 +121,28 @@ reservation-range reservations i =
     (within 0 mostEnergy (reservationCurtailed reservations i)))
     (within 0 (reservationReserved reservations i) (reservationCurtailed reservations i)))
 
+firm-range : (days : ℕ) (firm : List ℕ) (i : ℕ) → Tests (FirmInRange days firm i) (firmOutside days firm i)
+unfolding firmOutside
+firm-range days firm i =
+    reworded
+    (λ p. record {
+      account = p .0 .0 .0 .0 .0;
+      term = p .0 .0 .0 .0 .1;
+      miso = p .0 .0 .0 .1;
+      day = p .0 .0 .1;
+      monthly-on-first = p .0 .1;
+      capacity = p .1;
+    })
+    (λ r. (((((r .account, r .term), r .miso), r .day), r .monthly-on-first), r .capacity))
+    (both
+    (also
+    (both
+    (both (both (within 1 lastAccount (firmAccount firm i)) (within dailyTerm monthlyTerm (firmTerm firm i)))
+    (within 0 misoDelivery (firmMiso firm i)))
+    (within 1 days (firmDay firm i)))
+    (λ p. first-day (firmTerm firm i) days (firmDay firm i) (p .1)))
+    (within 0 mostCapacity (firmCapacity firm i)))
+
 range-tested : (days : ℕ) (t : Tables) (table : Table) (i : ℕ) → Tests (InRange days t table i) (rowOutside days table (wordsOf t table) i)
 range-tested days t Zones i = zone-range (t .zones) i
 range-tested days t Owners i = owner-range (t .owners) i
@@ -107,6 +150,7 @@ range-tested days t Units i = unit-range (t .units) i
 range-tested days t Accounts i = account-range (t .accounts) i
 range-tested days t Loads i = load-range days (t .loads) i
 range-tested days t Reservations i = reservation-range (t .reservations) i
+range-tested days t Firm i = firm-range days (t .firm) i
 
 -- what a number says of a row: 0 that it is good, any other which rule is the first that is broken
 pub data Ruling (days : ℕ) (t : Tables) (table : Table) (i n : ℕ) : Type 0 where
@@ -137,6 +181,7 @@ link-tested t Units i = both (known Owners (t .owners) (unitOwner (t .units) i))
 link-tested t Accounts i = unless-zero (accountZone (t .accounts) i) (known Zones (t .zones) (accountZone (t .accounts) i))
 link-tested t Loads i = known Accounts (t .accounts) (loadAccount (t .loads) i)
 link-tested t Reservations i = known Accounts (t .accounts) (reservationAccount (t .reservations) i)
+link-tested t Firm i = known Accounts (t .accounts) (firmAccount (t .firm) i)
 
 pair-tested : (t : Tables) (table : Table) (i : ℕ) → Tests (Unpaired t table i) (rowTaken table (wordsOf t table) i)
 pair-tested t Zones i = no-rule
@@ -145,6 +190,7 @@ pair-tested t Units i = no-rule
 pair-tested t Accounts i = own-pair (t .accounts) i
 pair-tested t Loads i = no-rule
 pair-tested t Reservations i = no-rule
+pair-tested t Firm i = no-rule
 
 pub row-ruled : (days : ℕ) (t : Tables) (table : Table) (i : ℕ) → Ruling days t table i (rowOf days t table i)
 unfolding rowOf

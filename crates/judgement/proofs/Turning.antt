@@ -93,14 +93,14 @@ module _ {days : ℕ} {t : Tables} {table : Table} {n i : ℕ} (passed : RowsPas
         sym (first-end (number table) (rowOf days t table) _ i most least (passed .fine)) ∙ sym (then-second before _ unrefused)
 
 -- where there is no month, MONTH is refused
-no-month : (nonzone : ℕ) → headLooked true nonzone .number ≢ 0
+no-month : (head : Head) → headLooked true head .number ≢ 0
 unfolding headLooked
-no-month nonzone z = omega (arith, refuse-number MONTH numbers.HEAD 0)
+no-month head z = omega (arith, refuse-number MONTH numbers.HEAD 0)
 
 module _ (head : Head) (t : Tables) (lentCharges lentCredits : ℕ) (counts room : Answer) (counted : counts ≡ countsInTurn t)
     (roomy : room ≡ (counts then roomFor CHARGES (rows Accounts (t .accounts) * chargeWidth) lentCharges then roomFor CREDITS (rows Owners (t .owners) * creditWidth) lentCredits)) where
   -- where there is a month, the tables come behind the head ..
-  pub month-made : (month : Month) (frame a : Answer) (r : Judged) → madeOf (head .month) (head .days) ≡ calendar.Good month → frame ≡ (room then headLooked false (head .nonzone))
+  pub month-made : (month : Month) (frame a : Answer) (r : Judged) → madeOf (head .month) (head .days) ≡ calendar.Good month → frame ≡ (room then headLooked false head)
       → a ≡ (frame then tablesInTurn (rowsJudged (month .days) t)) → r ≡ goodOr month a → r ≡ judgedAs head t lentCharges lentCredits
   unfolding judged
   month-made month frame a r made h e g =
@@ -108,11 +108,11 @@ module _ (head : Head) (t : Tables) (lentCharges lentCredits : ℕ) (counts room
       g ∙ ap₂ goodOr (its .1) (e ∙ rw (h, roomy, counted, its .1, its .0))
 
   -- .. and where there is none, MONTH or a refusal before it is the answer
-  pub none-made : (a : Answer) (r : Judged) → madeOf (head .month) (head .days) ≡ calendar.Bad → a ≡ (room then headLooked true (head .nonzone)) → r ≡ Refused a
+  pub none-made : (a : Answer) (r : Judged) → madeOf (head .month) (head .days) ≡ calendar.Bad → a ≡ (room then headLooked true head) → r ≡ Refused a
       → r ≡ judgedAs head t lentCharges lentCredits
   unfolding judged
   none-made a r made h g =
-      let bad : a .number ≢ 0 = λ z. no-month (head .nonzone) (then-none room (headLooked true (head .nonzone)) (ap (λ (b : Answer). b .number) (sym h) ∙ z) .1) in
+      let bad : a .number ≢ 0 = λ z. no-month head (then-none room (headLooked true head) (ap (λ (b : Answer). b .number) (sym h) ∙ z) .1) in
       g
       ∙ sym (refused-given (monthIn head) a bad)
       ∙ ap (goodOr (monthIn head)) (refusal-stays a (tablesInTurn (rowsJudged (head .days) t)) bad ∙ rw (h, roomy, counted, made-bad (head .month) (head .days) made))

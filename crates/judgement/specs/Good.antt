@@ -4,11 +4,11 @@ use mathlib.Core.Path.{_≡_}
 use mathlib.Core.Logic.{_≢_}
 use mathlib.Core.List.{List}
 use Prim.Native.Nat.{ℕ, _+_, _*_, _≤_, _<_}
-use Rattle.month.specs.Limits.{mostRate, mostAnnual, mostLoad, mostEnergy, lastZone, lastOwner, lastUnit, lastAccount, lastCustomer, blackStart, reactive, mostReserve}
+use Rattle.month.specs.Limits.{mostRate, mostAnnual, mostLoad, mostEnergy, lastZone, lastOwner, lastUnit, lastAccount, lastCustomer, blackStart, reactive, mostReserve, dailyTerm, monthlyTerm, misoDelivery, mostCapacity, lastWeekday}
 use Rattle.month.specs.Calendar.{InCalendar}
 use Rattle.tables.specs.declared.Head.{Head}
 use Rattle.tables.specs.declared.Table.{Table}
-use Rattle.tables.specs.declared.Table.the-variants.{Zones, Owners, Units, Accounts, Loads, Reservations}
+use Rattle.tables.specs.declared.Table.the-variants.{Zones, Owners, Units, Accounts, Loads, Reservations, Firm}
 use Rattle.tables.specs.Shape.{keyColumns, chargeWidth, creditWidth, rows, Tables, wordsOf}
 use Rattle.tables.specs.Counts.{GoodCount}
 use Rattle.tables.specs.Columns.{
@@ -33,6 +33,11 @@ use Rattle.tables.specs.Columns.{
   reservationAccount,
   reservationReserved,
   reservationCurtailed,
+  firmAccount,
+  firmTerm,
+  firmMiso,
+  firmDay,
+  firmCapacity,
 }
 
 -- x is low..high
@@ -75,6 +80,14 @@ pub record ReservationInRange (reservations : List ℕ) (i : ℕ) : Type 0 where
   pub curtailed : Within 0 mostEnergy (reservationCurtailed reservations i)
   pub at-most-reserved : reservationCurtailed reservations i ≤ reservationReserved reservations i
 
+pub record FirmInRange (days : ℕ) (firm : List ℕ) (i : ℕ) : Type 0 where
+  pub account : Within 1 lastAccount (firmAccount firm i)
+  pub term : Within dailyTerm monthlyTerm (firmTerm firm i)
+  pub miso : Within 0 misoDelivery (firmMiso firm i)
+  pub day : Within 1 days (firmDay firm i)
+  pub monthly-on-first : firmTerm firm i ≡ monthlyTerm → firmDay firm i ≡ 1
+  pub capacity : Within 0 mostCapacity (firmCapacity firm i)
+
 abbrev pub InRange : ℕ → Tables → Table → ℕ → Type 0
 InRange days t Zones i = ZoneInRange (t .zones) i
 InRange days t Owners i = OwnerInRange (t .owners) i
@@ -82,9 +95,11 @@ InRange days t Units i = UnitInRange (t .units) i
 InRange days t Accounts i = AccountInRange (t .accounts) i
 InRange days t Loads i = LoadInRange days (t .loads) i
 InRange days t Reservations i = ReservationInRange (t .reservations) i
+InRange days t Firm i = FirmInRange days (t .firm) i
 
 -- row i of a table stands above its row j, the lower row being named first: some column of the key is larger, and the columns before
--- it are the same. "Zones, owners, units, accounts and reservations strictly ascend by their first entry, loads by account, then day"
+-- it are the same. "Zones, owners, units, accounts and reservations strictly ascend by their first entry, loads by account, then day",
+-- table 10 "ascending by the first four"
 pub record Above (t : Tables) (table : Table) (j i : ℕ) : Type 0 where
   pub column : ℕ
   pub in-key : column < keyColumns table
@@ -103,6 +118,7 @@ Linked t Units i = Known Owners (t .owners) (unitOwner (t .units) i) × Known Zo
 Linked t Accounts i = accountZone (t .accounts) i ≢ 0 → Known Zones (t .zones) (accountZone (t .accounts) i)
 Linked t Loads i = Known Accounts (t .accounts) (loadAccount (t .loads) i)
 Linked t Reservations i = Known Accounts (t .accounts) (reservationAccount (t .reservations) i)
+Linked t Firm i = Known Accounts (t .accounts) (firmAccount (t .firm) i)
 
 -- "No two accounts share customer and zone": no earlier one has both of account i
 abbrev pub OwnPair : List ℕ → ℕ → Type 0
@@ -115,6 +131,7 @@ Unpaired t Units i = Unit {0}
 Unpaired t Accounts i = OwnPair (t .accounts) i
 Unpaired t Loads i = Unit {0}
 Unpaired t Reservations i = Unit {0}
+Unpaired t Firm i = Unit {0}
 
 -- ORDER is "a row not above the one before": turned round, each row is above the one before
 abbrev pub Ascending : Tables → Table → ℕ → Type 0
@@ -130,6 +147,14 @@ pub record GoodRow (days : ℕ) (t : Tables) (table : Table) (i : ℕ) : Type 0 
 abbrev pub GoodTable : ℕ → Tables → Table → Type 0
 GoodTable days t table = (i : ℕ) → i < rows table (wordsOf t table) → GoodRow days t table i
 
+-- the head's rates and the weekday of day 1 in their ranges
+pub record HeadInRange (head : Head) : Type 0 where
+  pub nonzone : Within 0 mostRate (head .nonzone)
+  pub daily : Within 0 mostRate (head .daily)
+  pub weekly : Within 0 mostRate (head .weekly)
+  pub monthly : Within 0 mostRate (head .monthly)
+  pub weekday : Within 1 lastWeekday (head .weekday)
+
 -- the lent outputs have a place for every figure
 pub record Roomy (t : Tables) (lentCharges lentCredits : ℕ) : Type 0 where
   pub charges-fit : rows Accounts (t .accounts) * chargeWidth ≤ lentCharges
@@ -140,7 +165,7 @@ pub record GoodFrame (head : Head) (t : Tables) (lentCharges lentCredits : ℕ) 
   pub counted : (table : Table) → GoodCount t table
   pub roomy : Roomy t lentCharges lentCredits
   pub month-known : InCalendar (head .month) (head .days)
-  pub nonzone-in-range : Within 0 mostRate (head .nonzone)
+  pub head-in-range : HeadInRange head
 
 pub record GoodMonth (head : Head) (t : Tables) (lentCharges lentCredits : ℕ) : Type 0 where
   pub frame : GoodFrame head t lentCharges lentCredits

@@ -6,14 +6,13 @@ use Rattle.answer.specs.declared.Answer.{Answer}
 use Rattle.answer.specs.Numbers.{COUNT, ROOM, MONTH, RANGE, ORDER, LINK, PAIR, CHARGES, CREDITS}
 use Rattle.answer.specs.Numbers as numbers
 use Rattle.answer.specs.Turns.{refusal}
-use Rattle.month.specs.Limits.{mostRate}
 use Rattle.month.specs.Calendar.{InCalendar}
 use Rattle.tables.specs.declared.Head.{Head}
 use Rattle.tables.specs.declared.Table.{Table}
 use Rattle.tables.specs.declared.Table.the-variants.{Owners, Accounts}
-use Rattle.tables.specs.Shape.{number, chargeWidth, creditWidth, rows, Tables, wordsOf}
+use Rattle.tables.specs.Shape.{placeOf, number, chargeWidth, creditWidth, rows, Tables, wordsOf}
 use Rattle.tables.specs.Counts.{GoodCount}
-use Rattle.judgement.specs.Good.{InRange, Ascending, Linked, Unpaired, GoodRow, GoodTable, Roomy, GoodFrame}
+use Rattle.judgement.specs.Good.{InRange, Ascending, Linked, Unpaired, GoodRow, GoodTable, HeadInRange, Roomy, GoodFrame}
 
 -- "in a row RANGE, ORDER, LINK, PAIR": n is the number of the first of row i's rules that is broken
 module _ (days : ℕ) (t : Tables) (table : Table) (i n : ℕ) where
@@ -27,7 +26,7 @@ module _ (head : Head) (t : Tables) (lentCharges lentCredits : ℕ) where
   -- row i of a table is the first that is not good, in the first table that is not
   pub record RowRefused (table : Table) (i n : ℕ) : Type 0 where
     pub frame : GoodFrame head t lentCharges lentCredits
-    pub earlier-tables : (earlier : Table) → number earlier < number table → GoodTable (head .days) t earlier
+    pub earlier-tables : (earlier : Table) → placeOf earlier < placeOf table → GoodTable (head .days) t earlier
     pub is-row : i < rows table (wordsOf t table)
     pub earlier-rows : (j : ℕ) → j < i → GoodRow (head .days) t table j
     pub broken : FirstBroken (head .days) t table i n
@@ -37,7 +36,7 @@ module _ (head : Head) (t : Tables) (lentCharges lentCredits : ℕ) where
     by-count :
         (table : Table)
         → a ≡ refusal COUNT (number table) 0
-        → ((earlier : Table) → number earlier < number table → GoodCount t earlier)
+        → ((earlier : Table) → placeOf earlier < placeOf table → GoodCount t earlier)
         → ¬ GoodCount t table
         → Refused a
     by-charges :
@@ -57,11 +56,11 @@ module _ (head : Head) (t : Tables) (lentCharges lentCredits : ℕ) where
         → Roomy t lentCharges lentCredits
         → ¬ InCalendar (head .month) (head .days)
         → Refused a
-    by-nonzone :
+    by-head :
         a ≡ refusal RANGE numbers.HEAD 0
         → ((table : Table) → GoodCount t table)
         → Roomy t lentCharges lentCredits
         → InCalendar (head .month) (head .days)
-        → mostRate < head .nonzone
+        → ¬ HeadInRange head
         → Refused a
     by-row : (table : Table) (i n : ℕ) → a ≡ refusal n (number table) i → RowRefused table i n → Refused a

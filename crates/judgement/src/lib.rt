@@ -31,9 +31,10 @@ fn good_or(month: Month, answer: Answer) -> Judged
     Judged::Refused(answer)
 }
 
-// Judges a month's input: COUNT for tables 1 to 6, ROOM for the outputs, whose lengths in words `charges` and `credits` are, MONTH,
-// the non-zone rate's RANGE, then tables 1 to 6 row by row, in a row RANGE, ORDER, LINK, PAIR. The first refusal is the answer; where
-// there is none the answer is the month of the head. Any input is judged, and nothing of it is changed.
+// Judges a month's input: COUNT for tables 1 to 6 and 10, ROOM for the outputs, whose lengths in words `charges` and `credits` are,
+// MONTH, RANGE of the non-zone rate and of the head's numbers behind it, then tables 1 to 6 and 10 row by row, in a row RANGE, ORDER,
+// LINK, PAIR. The first refusal is the answer; where there is none the answer is the month of the head. Any input is judged, and
+// nothing of it is changed.
 pub fn judge<'a>(head: Head, tables: [&'a [u64]; TABLES], charges: usize, credits: usize) -> Judged
     ensures { λ r. ⌜ r ≡ judgedAs head (tablesFrom (map now (tables .entry))) charges credits ⌝ }
 {
@@ -41,10 +42,10 @@ pub fn judge<'a>(head: Head, tables: [&'a [u64]; TABLES], charges: usize, credit
     let room = turns::judge_room(counts, tables, charges, credits);
     match Month::new(head.month, head.days) {
         Made::Good(month) => {
-            let frame = turns::judge_head(room, false, head.nonzone);
+            let frame = turns::judge_head(room, false, head);
             let answer = turns::judge_tables(frame, month, tables);
             good_or(month, answer)
         }
-        Made::Bad => Judged::Refused(turns::judge_head(room, true, head.nonzone)),
+        Made::Bad => Judged::Refused(turns::judge_head(room, true, head)),
     }
 }

@@ -7,11 +7,13 @@ ghost use Rattle.answer.specs.Turns.{_then_};
 ghost use Rattle.tables.specs.declared.Table.the-variants.{Owners, Accounts};
 ghost use Rattle.tables.specs.Shape.{chargeWidth, creditWidth, rows, tablesFrom, wordsOf};
 ghost use Rattle.tables.specs.Counts.{tablesInTurn, roomFor};
-ghost use Rattle.judgement.specs.Judgement.{headLooked, rowsJudged};
+ghost use Rattle.judgement.specs.Judgement.{headOutside, headLooked, rowsJudged};
 use answer::Answer;
 use month::Month;
 use tables::CHARGE_WIDTH;
 use tables::CREDIT_WIDTH;
+use tables::Head;
+use tables::LAST_WEEKDAY;
 use tables::MOST_RATE;
 use tables::TABLES;
 use tables::Table;
@@ -35,14 +37,25 @@ pub fn judge_room<'a>(
     answer::look_at(first, credit_room, answer::CREDITS)
 }
 
-// MONTH where there is none, then the non-zone rate's RANGE.
-pub fn judge_head(before: Answer, none: bool, nonzone: u64) -> Answer
-    ensures { λ r. ⌜ r ≡ (before then headLooked none nonzone) ⌝ }
+// A number of the head is outside its range: the non-zone rate, the rates of firm service, the weekday of day 1.
+fn head_outside(head: Head) -> bool
+    ensures { λ r. ⌜ r ≡ headOutside head ⌝ }
 {
-    let outside = rows::outside(0, MOST_RATE, nonzone);
-    let rate = answer::look(outside, answer::RANGE, answer::ACCEPTED);
-    let head = answer::look(none, answer::MONTH, rate);
-    answer::look_at(before, head, answer::HEAD)
+    rows::outside(0, MOST_RATE, head.nonzone)
+        | rows::outside(0, MOST_RATE, head.daily)
+        | rows::outside(0, MOST_RATE, head.weekly)
+        | rows::outside(0, MOST_RATE, head.monthly)
+        | rows::outside(1, LAST_WEEKDAY, head.weekday)
+}
+
+// MONTH where there is none, then RANGE of the head's other numbers.
+pub fn judge_head(before: Answer, none: bool, head: Head) -> Answer
+    ensures { λ r. ⌜ r ≡ (before then headLooked none head) ⌝ }
+{
+    let outside = head_outside(head);
+    let range = answer::look(outside, answer::RANGE, answer::ACCEPTED);
+    let number = answer::look(none, answer::MONTH, range);
+    answer::look_at(before, number, answer::HEAD)
 }
 
 // A table row by row, unless the answer so far is a refusal.
@@ -70,7 +83,7 @@ fn judge_rows<'a>(before: Answer, table: Table, month: Month, tables: [&'a [u64]
     }
 }
 
-// Tables 1 to 6 row by row, unless the answer so far is a refusal.
+// Every table row by row, in the order of their numbers, unless the answer so far is a refusal.
 pub fn judge_tables<'a>(before: Answer, month: Month, tables: [&'a [u64]; TABLES]) -> Answer
     ensures { λ r. ⌜ r ≡ (before then tablesInTurn (rowsJudged (month .days) (tablesFrom (map now (tables .entry))))) ⌝ }
 {

@@ -1,7 +1,7 @@
-// What every crate shares: a sum that never wraps, a number where two others are the same, and for the proofs sums, counts and ranks over positions, and lists made
-// entry by entry. `specs/` has the definitions and `proofs/` their laws.
+// What every crate shares: a sum that never wraps, a number where two others are the same, the smaller and the larger of two, and for
+// the proofs sums, counts and ranks over positions, and lists made entry by entry. `specs/` has the definitions and `proofs/` their laws.
 ghost use mathlib.Core.Path.{_≡_};
-ghost use Prim.Native.Nat.{min};
+ghost use Prim.Native.Nat.{min, max};
 ghost use lib.Dec.{eqb};
 ghost use Rattle.lists.specs.Sums.{total, when};
 
@@ -29,4 +29,24 @@ pub fn when_same(its: u64, wanted: u64, x: u64) -> u64
         return x;
     }
     0
+}
+
+// The smaller of two numbers.
+pub fn smaller(a: u64, b: u64) -> u64
+    ensures { λ r. ⌜ r ≡ min a b ⌝ }
+{
+    if a <= b {
+        return a;
+    }
+    b
+}
+
+// The larger of two numbers.
+pub fn larger(a: u64, b: u64) -> u64
+    ensures { λ r. ⌜ r ≡ max a b ⌝ }
+{
+    if a <= b {
+        return b;
+    }
+    a
 }

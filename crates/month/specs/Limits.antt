@@ -20,7 +20,7 @@ lastAccount = 9999
 abbrev pub lastCustomer : ℕ
 lastCustomer = 10 ^ 9
 
--- "Rates are cents per MW-year, 0..10^8"
+-- "Rates are cents per MW-year, 0..10^8"; and for firm service "a rate for each term, 0..10^8 cents per MW"
 abbrev pub mostRate : ℕ
 mostRate = 10 ^ 8
 
@@ -49,3 +49,29 @@ mostLoad = 10 ^ 6
 -- "reserved and curtailed energy is tenths of a MWh in the month, 0..10^9"
 abbrev pub mostEnergy : ℕ
 mostEnergy = 10 ^ 9
+
+-- "term (1 daily, 2 weekly, 3 monthly)"
+abbrev pub dailyTerm : ℕ
+dailyTerm = 1
+
+abbrev pub weeklyTerm : ℕ
+weeklyTerm = 2
+
+abbrev pub monthlyTerm : ℕ
+monthlyTerm = 3
+
+-- "MISO delivery 0 or 1"
+abbrev pub misoDelivery : ℕ
+misoDelivery = 1
+
+-- "first day (1 for monthly)": the last day on which a reservation of a term may begin, in a month of so many days
+abbrev pub lastFirstDay : ℕ → ℕ → ℕ
+lastFirstDay term days = cond (eqb term monthlyTerm) 1 days
+
+-- "capacity in tenths of a MW, 0..10^6"
+abbrev pub mostCapacity : ℕ
+mostCapacity = 10 ^ 6
+
+-- "the weekday of day 1, 1..7 from Monday"
+abbrev pub lastWeekday : ℕ
+lastWeekday = 7

@@ -54,7 +54,7 @@ fits-front table t f full = le-trans (le-of-eq (f .whole)) (le-trans (mul-le-mul
 module _ (text : List ℕ) (lent : Tables) where
   abbrev Short : Answer → Type 0
   Short a =
-      (table : Table) × (a ≡ refusal ROOM (number table) 0) × ((earlier : Table) → number earlier < number table → Full lent earlier)
+      (table : Table) × (a ≡ refusal ROOM (number table) 0) × ((earlier : Table) → placeOf earlier < placeOf table → Full lent earlier)
       × ¬ Full lent table
 
   abbrev RoomLooked : Type 0
@@ -128,7 +128,7 @@ module _ (text : List ℕ) (lent : Tables) where
       go (passed q full) = absurd (short (full table))
       go (stopped d why) =
           outcome-short d
-          ∙ ap refused (why .1 ∙ ap (λ n. refusal ROOM n 0) (first-broken (Full lent) (why .0) table (why .2) (why .3) before short) ∙ sym e)
+          ∙ ap refused (why .1 ∙ ap (λ t. refusal ROOM (number t) 0) (first-broken (Full lent) (why .0) table (why .2) (why .3) before short) ∙ sym e)
   outcome-why a (by-text at full) = outcome-full full ∙ misfit-refused monthForm month-sound text a at
   outcome-why a (by-count table e why full) = outcome-full full ∙ full-table table why ∙ ap refused (sym e)
 

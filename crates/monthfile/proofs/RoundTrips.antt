@@ -1,24 +1,27 @@
 -- What was read is written as the same text, and what was written is read as the same rows: from call to call.
 -- Assumes nothing.
 use mathlib.Core.Path.{_≡_, refl, sym, ap, _∙_}
-use mathlib.Core.List.{List, [], _∷_}
-use Prim.Native.Nat.{ℕ, _+_, _*_, _/_, _%_, _≤_, suc}
+use mathlib.Core.List.{List, []}
+use Prim.Native.Nat.{ℕ, _+_, _*_, _/_, _%_, _≤_}
 use native.Mathlib.Nat.{div-add-mod, le-trans, le-of-eq, mul-div-left, mul-mod-left}
 use native.Mathlib.Omega.{arith}
 use lib.ListN.{length, take, drop, length-append}
 use lib.Seq.{take-append-seam, take-at}
+use Rattle.lists.specs.Sums.{at}
+use Rattle.lists.specs.Entries.{listed}
+use Rattle.lists.proofs.Entries.{listed-at}
 use Rattle.answer.specs.declared.Answer.{Answer}
 use Rattle.answer.specs.Turns.{accepted}
 use Rattle.tables.specs.declared.Head.{Head}
 use Rattle.tables.specs.declared.Table.{Table}
-use Rattle.tables.specs.declared.Table.the-variants.{Zones, Owners, Units, Accounts, Loads, Reservations}
+use Rattle.tables.specs.declared.Table.the-variants.{Zones, Owners, Units, Accounts, Loads, Reservations, Firm}
 use Rattle.tables.specs.Shape.{placeOf, width, Tables, wordsOf}
 use Rattle.tables.specs.Counts.{GoodCount}
 use Rattle.tables.proofs.Places.{width-pos}
 use Rattle.tables.proofs.Stages.{passed, stopped}
 use Rattle.text.specs.Numbers.{Below}
 use Rattle.fileform.specs.Each.{inOrder}
-use Rattle.fileform.specs.Form.{kindOf, monthForm}
+use Rattle.fileform.specs.Form.{headCount, kindOf, monthForm}
 use Rattle.fileform.specs.Reading.{got, Rows, noRows, nth, Contents, reading}
 use Rattle.fileform.specs.Writing.{fileText, Fits, ContentsFit}
 use Rattle.fileform.proofs.Each.{words-by, order-at, by-places}
@@ -78,13 +81,10 @@ text-read text lent after r reads z =
           (ap (λ h. countIn h table) (read .3) ∙ at-counts (read .0 .tables) (placeOf table)) (read .4 table);
     }
 
--- three numbers
-three : (ns : List ℕ) → length ns ≡ 3 → numbersOf (headRead ns) ≡ ns
-three [] e = absurd (let z : 0 ≡ 3 = e in omega arith)
-three (a ∷ []) e = absurd (let z : 1 ≡ 3 = e in omega arith)
-three (a ∷ b ∷ []) e = absurd (let z : 2 ≡ 3 = e in omega arith)
-three (a ∷ b ∷ c ∷ []) e = refl
-three (a ∷ b ∷ c ∷ d ∷ ns) e = absurd (let z : suc (suc (suc (suc (length ns)))) ≡ 3 = e in omega arith)
+-- as many numbers as there are first lines
+head-numbers : (ns : List ℕ) → length ns ≡ headCount → numbersOf (headRead ns) ≡ ns
+unfolding listed
+head-numbers ns e = ap (λ n. listed n (at ns)) (sym e) ∙ listed-at ns
 
 module _ (text : List ℕ) (r : Reading) (after : Tables) (read : TextRead text r after) where
   module _ (table : Table) where
@@ -120,7 +120,7 @@ module _ (text : List ℕ) (r : Reading) (after : Tables) (read : TextRead text 
   unfolding own
   contents-are =
       let head : numbersOf (r .head) ≡ read .contents .head =
-      ap (λ (h : Reading). numbersOf (h .head)) (read .answers) ∙ three (read .contents .head) (read .within .one-each) in
+      ap (λ (h : Reading). numbersOf (h .head)) (read .answers) ∙ head-numbers (read .contents .head) (read .within .one-each) in
       let tables : allRows (tablesRead r after) ≡ read .contents .tables =
       (λ i. inOrder (λ table. rows-are table i))
       ∙ by-places noRows (read .contents .tables) (all-fit-length (monthForm .kinds) (read .contents .tables) (read .within .fit)) in
@@ -156,7 +156,7 @@ module _ (head : Head) (t : Tables) (small : Below (numbersOf head)) (below : (t
       record {
         one-each = refl;
         small = small;
-        fit = (row-fits all Zones, (row-fits all Owners, (row-fits all Units, (row-fits all Accounts, (row-fits all Loads, (row-fits all Reservations, tt))))));
+        fit = (row-fits all Zones, (row-fits all Owners, (row-fits all Units, (row-fits all Accounts, (row-fits all Loads, (row-fits all Reservations, (row-fits all Firm, tt)))))));
       }
 
   held-words : (table : Table) → nth (allRows t) (placeOf table) .words ≡ wordsOf t table

@@ -66,7 +66,7 @@ module _ (head : Head) (t : Tables) (lent : List ℕ) where
       where
         same : (b : Answer) → WriteRefused head t (length lent) b → WriteRefused head t (length lent) a → b ≡ a
         same b (by-bad-table x e before bad) (by-bad-table y q before′ bad′) =
-            e ∙ ap (λ n. refusal answers.COUNT n 0) (first-broken (GoodCount t) x y before bad before′ bad′) ∙ sym q
+            e ∙ ap (λ t. refusal answers.COUNT (number t) 0) (first-broken (GoodCount t) x y before bad before′ bad′) ∙ sym q
         same b (by-bad-table x e before bad) (by-short-room q all short) = absurd (bad (all x))
         same b (by-short-room e all short) (by-bad-table y q before bad) = absurd (bad (all y))
         same b (by-short-room e all short) (by-short-room q all′ short′) = e ∙ sym q

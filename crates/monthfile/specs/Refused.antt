@@ -22,7 +22,7 @@ Full lent table = limit table * width table ≤ length (wordsOf lent table)
 module _ (text : List ℕ) (lent : Tables) (a : Answer) where
   -- "tables lent at full size (ROOM, naming the first short table), then takes lines in turn, TEXT before COUNT (row is the limit)"
   pub data ReadRefused : Type 0 where
-    by-room : (table : Table) → a ≡ refusal answers.ROOM (number table) 0 → ((earlier : Table) → number earlier < number table → Full lent earlier)
+    by-room : (table : Table) → a ≡ refusal answers.ROOM (number table) 0 → ((earlier : Table) → placeOf earlier < placeOf table → Full lent earlier)
         → ¬ Full lent table → ReadRefused
     by-text : AtMisfit monthForm text a → ((table : Table) → Full lent table) → ReadRefused
     by-count : (table : Table) → a ≡ refusal answers.COUNT (number table) (limit table) → RowTooMany monthForm (placeOf table) (kindOf table) text
@@ -31,6 +31,6 @@ module _ (text : List ℕ) (lent : Tables) (a : Answer) where
 module _ (head : Head) (t : Tables) (room : ℕ) (a : Answer) where
   -- "Writing refuses with COUNT (the first bad table), then ROOM (table 0)"
   pub data WriteRefused : Type 0 where
-    by-bad-table : (table : Table) → a ≡ refusal answers.COUNT (number table) 0 → ((earlier : Table) → number earlier < number table → GoodCount t earlier)
+    by-bad-table : (table : Table) → a ≡ refusal answers.COUNT (number table) 0 → ((earlier : Table) → placeOf earlier < placeOf table → GoodCount t earlier)
         → ¬ GoodCount t table → WriteRefused
     by-short-room : a ≡ refusal answers.ROOM answers.HEAD 0 → ((table : Table) → GoodCount t table) → room < length (monthText head t) → WriteRefused

@@ -16,7 +16,7 @@ use Rattle.lists.proofs.Sums.{every-at}
 use Rattle.lists.proofs.Ranks.{lt-or-le, true-or-false}
 use Rattle.lists.proofs.Search.{any-at, none-from}
 use Rattle.tables.specs.declared.Table.{Table}
-use Rattle.tables.specs.declared.Table.the-variants.{Zones, Owners, Units, Accounts, Loads, Reservations}
+use Rattle.tables.specs.declared.Table.the-variants.{Zones, Owners, Units, Accounts, Loads, Reservations, Firm}
 use Rattle.tables.specs.Shape.{keyColumns, width}
 use Rattle.tables.specs.Columns.{entry}
 use Rattle.rows.specs.Rows.{notAbove, above, rowAbove}
@@ -84,6 +84,7 @@ key-within Units c h = omega arith
 key-within Accounts c h = omega arith
 key-within Loads c h = omega arith
 key-within Reservations c h = omega arith
+key-within Firm c h = omega arith
 
 -- row i of a table by its columns
 abbrev columns : Table → List ℕ → ℕ → ℕ → ℕ

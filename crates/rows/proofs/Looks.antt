@@ -2,16 +2,19 @@
 -- Assumes nothing.
 use mathlib.Core.Path.{_≡_, refl, sym, ap, subst, _∙_}
 use mathlib.Core.Bool.{Bool, true, false, not}
-use mathlib.Core.List.{List}
+use mathlib.Core.List.{List, [], _∷_}
 use Prim.Native.Nat.{ℕ, _-_, _/_, _<_}
 use native.Mathlib.Nat.{pos-of-ne-zero}
+use denote.Enum.Declared.{tagOf}
+use types.Run.{OneOf, miss}
 use borrow.Author.Tests.{lt-ltb, eq-eqb}
 use Rattle.lists.specs.Sums.{any}
 use Rattle.lists.proofs.Search.{any-at}
 use Rattle.tables.specs.declared.Table.{Table}
-use Rattle.tables.specs.declared.Table.the-variants.{Zones, Owners, Units, Accounts, Loads, Reservations}
-use Rattle.tables.specs.Shape.{number, width, rows, Tables, wordsOf}
+use Rattle.tables.specs.declared.Table.the-variants.{Zones, Owners, Units, Accounts, Loads, Reservations, Firm}
+use Rattle.tables.specs.Shape.{width, rows, Tables, wordsOf}
 use Rattle.tables.specs.Columns.{entry}
+use Rattle.tables.proofs.Table.{the-type}
 use Rattle.rows.specs.Rows.{notAbove, names, unknown, rowUnlinked, samePair, taken, rowTaken}
 
 -- a row of a table that turns out to be a certain one
@@ -57,11 +60,32 @@ pub pair-missing : (accounts : List ℕ) (i : ℕ) → any i (λ k. samePair acc
 unfolding taken
 pair-missing accounts i e = sym e
 
+-- a table is one of those that an arm has, told by the numbers of their variants
+abbrev OfArm : List ℕ → Table → Type 0
+OfArm arm table = OneOf arm (tagOf the-type table)
+
+-- the tables whose first entry is an account
+abbrev ofAccounts : List ℕ
+ofAccounts = 4 ∷ 5 ∷ 6 ∷ []
+
+pub account-named : (t : Tables) (table : Table) (i : ℕ) → OfArm ofAccounts table → unknown Accounts (t .accounts) (entry table 0 (wordsOf t table) i) ≡ rowUnlinked t table i
+account-named t Zones i k = absurd (miss ofAccounts 0 tt k)
+account-named t Owners i k = absurd (miss ofAccounts 1 tt k)
+account-named t Units i k = absurd (miss ofAccounts 2 tt k)
+account-named t Accounts i k = absurd (miss ofAccounts 3 tt k)
+account-named t Loads i k = refl
+account-named t Reservations i k = refl
+account-named t Firm i k = refl
+
 -- in a table that is not the accounts' nothing is taken
-pub none-taken : (table : Table) (words : List ℕ) (i : ℕ) → (number table ≡ number Accounts → ⊥) → false ≡ rowTaken table words i
-none-taken Zones words i d = refl
-none-taken Owners words i d = refl
-none-taken Units words i d = refl
-none-taken Accounts words i d = absurd (d refl)
-none-taken Loads words i d = refl
-none-taken Reservations words i d = refl
+abbrev notAccounts : List ℕ
+notAccounts = 0 ∷ 1 ∷ 2 ∷ 4 ∷ 5 ∷ 6 ∷ []
+
+pub none-taken : (table : Table) (words : List ℕ) (i : ℕ) → OfArm notAccounts table → false ≡ rowTaken table words i
+none-taken Zones words i k = refl
+none-taken Owners words i k = refl
+none-taken Units words i k = refl
+none-taken Accounts words i k = absurd (miss notAccounts 3 tt k)
+none-taken Loads words i k = refl
+none-taken Reservations words i k = refl
+none-taken Firm words i k = refl

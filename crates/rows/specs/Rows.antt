@@ -7,9 +7,9 @@ use lib.Dec.{eqb, ltb}
 use Rattle.lists.specs.Sums.{any, every}
 use Rattle.answer.specs.Numbers.{RANGE, ORDER, LINK, PAIR}
 use Rattle.answer.specs.Turns.{look}
-use Rattle.month.specs.Limits.{mostRate, mostAnnual, mostLoad, mostEnergy, lastZone, lastOwner, lastUnit, lastAccount, lastCustomer, blackStart, reactive, reserveLimit}
+use Rattle.month.specs.Limits.{mostRate, mostAnnual, mostLoad, mostEnergy, lastZone, lastOwner, lastUnit, lastAccount, lastCustomer, blackStart, reactive, reserveLimit, dailyTerm, monthlyTerm, misoDelivery, lastFirstDay, mostCapacity}
 use Rattle.tables.specs.declared.Table.{Table}
-use Rattle.tables.specs.declared.Table.the-variants.{Zones, Owners, Units, Accounts, Loads, Reservations}
+use Rattle.tables.specs.declared.Table.the-variants.{Zones, Owners, Units, Accounts, Loads, Reservations, Firm}
 use Rattle.tables.specs.Shape.{keyColumns, rows, Tables, wordsOf}
 use Rattle.tables.specs.Columns.{
   entry,
@@ -33,6 +33,11 @@ use Rattle.tables.specs.Columns.{
   reservationAccount,
   reservationReserved,
   reservationCurtailed,
+  firmAccount,
+  firmTerm,
+  firmMiso,
+  firmDay,
+  firmCapacity,
 }
 
 -- "an entry outside its range"
@@ -81,6 +86,17 @@ reservationOutside reservations i =
     || outside 0 mostEnergy (reservationCurtailed reservations i)
     || outside 0 (reservationReserved reservations i) (reservationCurtailed reservations i)
 
+-- firm reservations: "account, term (1 daily, 2 weekly, 3 monthly), MISO delivery 0 or 1, first day (1 for monthly) and capacity in
+-- tenths of a MW, 0..10^6"; "A day is 1..days"
+unfoldable pub firmOutside : ℕ → List ℕ → ℕ → Bool
+firmOutside days firm i =
+    outside 1 lastAccount (firmAccount firm i)
+    || outside dailyTerm monthlyTerm (firmTerm firm i)
+    || outside 0 misoDelivery (firmMiso firm i)
+    || outside 1 days (firmDay firm i)
+    || outside 1 (lastFirstDay (firmTerm firm i) days) (firmDay firm i)
+    || outside 0 mostCapacity (firmCapacity firm i)
+
 -- RANGE of row i of a table, in a month of so many days
 abbrev pub rowOutside : ℕ → Table → List ℕ → ℕ → Bool
 rowOutside days Zones words i = zoneOutside words i
@@ -89,6 +105,7 @@ rowOutside days Units words i = unitOutside words i
 rowOutside days Accounts words i = accountOutside words i
 rowOutside days Loads words i = loadOutside days words i
 rowOutside days Reservations words i = reservationOutside words i
+rowOutside days Firm words i = firmOutside days words i
 
 -- "a row not above the one before"; `above j i` is whether row i stands above row j
 unfoldable pub notAbove : (ℕ → ℕ → Bool) → ℕ → Bool
@@ -100,7 +117,7 @@ unfoldable pub above : ℕ → (ℕ → ℕ) → (ℕ → ℕ) → Bool
 above n lower upper = any n (λ c. every c (λ k. eqb (lower k) (upper k)) && ltb (lower c) (upper c))
 
 -- ORDER of the rows of a table, by its key columns: "Zones, owners, units, accounts and reservations strictly ascend by their first
--- entry, loads by account, then day"
+-- entry, loads by account, then day", table 10 "ascending by the first four"
 abbrev pub rowAbove : Table → List ℕ → ℕ → ℕ → Bool
 rowAbove table words j i = above (keyColumns table) (λ c. entry table c words j) (λ c. entry table c words i)
 
@@ -121,6 +138,7 @@ rowUnlinked t Units i = unknown Owners (t .owners) (unitOwner (t .units) i) || u
 rowUnlinked t Accounts i = not (eqb (accountZone (t .accounts) i) 0) && unknown Zones (t .zones) (accountZone (t .accounts) i)
 rowUnlinked t Loads i = unknown Accounts (t .accounts) (loadAccount (t .loads) i)
 rowUnlinked t Reservations i = unknown Accounts (t .accounts) (reservationAccount (t .reservations) i)
+rowUnlinked t Firm i = unknown Accounts (t .accounts) (firmAccount (t .firm) i)
 
 -- two accounts "share customer and zone"
 abbrev pub samePair : List ℕ → ℕ → ℕ → Bool
@@ -139,6 +157,7 @@ rowTaken Units words i = false
 rowTaken Accounts words i = taken words i
 rowTaken Loads words i = false
 rowTaken Reservations words i = false
+rowTaken Firm words i = false
 
 -- "in a row RANGE, ORDER, LINK, PAIR": the number of the first of a row's four faults that is there
 unfoldable pub rowNumber : Bool → Bool → Bool → Bool → ℕ

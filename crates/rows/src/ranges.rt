@@ -1,19 +1,23 @@
 // RANGE: an entry of a row outside its range, table by table.
 ghost use mathlib.Core.Path.{_≡_};
 ghost use Prim.Native.Nat.{_<_};
-ghost use Rattle.tables.specs.declared.Table.the-variants.{Zones, Owners, Units, Accounts, Loads, Reservations};
+ghost use Rattle.tables.specs.declared.Table.the-variants.{Zones, Owners, Units, Accounts, Loads, Reservations, Firm};
 ghost use Rattle.tables.specs.Shape.{rows};
-ghost use Rattle.month.specs.Limits.{reserveLimit};
-ghost use Rattle.rows.specs.Rows.{zoneOutside, ownerOutside, unitOutside, accountOutside, loadOutside, reservationOutside, rowOutside};
+ghost use Rattle.month.specs.Limits.{reserveLimit, lastFirstDay};
+ghost use Rattle.rows.specs.Rows.{zoneOutside, ownerOutside, unitOutside, accountOutside, loadOutside, reservationOutside, firmOutside, rowOutside};
 use crate::outside;
 use month::Month;
 use tables::BLACK_START;
+use tables::DAILY;
 use tables::LAST_ACCOUNT;
 use tables::LAST_CUSTOMER;
 use tables::LAST_OWNER;
 use tables::LAST_UNIT;
 use tables::LAST_ZONE;
+use tables::MISO;
+use tables::MONTHLY;
 use tables::MOST_ANNUAL;
+use tables::MOST_CAPACITY;
 use tables::MOST_ENERGY;
 use tables::MOST_LOAD;
 use tables::MOST_RATE;
@@ -23,6 +27,11 @@ use tables::Table;
 use tables::columns::ACCOUNT_CUSTOMER;
 use tables::columns::ACCOUNT_NUMBER;
 use tables::columns::ACCOUNT_ZONE;
+use tables::columns::FIRM_ACCOUNT;
+use tables::columns::FIRM_CAPACITY;
+use tables::columns::FIRM_DAY;
+use tables::columns::FIRM_MISO;
+use tables::columns::FIRM_TERM;
 use tables::columns::LOAD_ACCOUNT;
 use tables::columns::LOAD_CONTRIBUTION;
 use tables::columns::LOAD_DAY;
@@ -125,6 +134,34 @@ fn reservation_outside(words: &[u64], i: usize) -> bool
         | outside(0, reserved, curtailed)
 }
 
+// The last day on which a reservation of a term may begin, in a month of so many days.
+fn last_first_day(term: u64, days: u64) -> u64
+    ensures { λ r. ⌜ r ≡ lastFirstDay term days ⌝ }
+{
+    if term == MONTHLY {
+        return 1;
+    }
+    days
+}
+
+fn firm_outside(month: Month, firm: &[u64], i: usize) -> bool
+    requires { ⌜ i < rows Firm (now firm) ⌝ }
+    ensures { λ r. ⌜ r ≡ firmOutside (month .days) (now (firm .entry)) i ⌝ }
+{
+    let days = month.day_count();
+    let account = entry(Table::Firm, FIRM_ACCOUNT, firm, i);
+    let term = entry(Table::Firm, FIRM_TERM, firm, i);
+    let miso = entry(Table::Firm, FIRM_MISO, firm, i);
+    let first = entry(Table::Firm, FIRM_DAY, firm, i);
+    let capacity = entry(Table::Firm, FIRM_CAPACITY, firm, i);
+    outside(1, LAST_ACCOUNT, account)
+        | outside(DAILY, MONTHLY, term)
+        | outside(0, MISO, miso)
+        | outside(1, days, first)
+        | outside(1, last_first_day(term, days), first)
+        | outside(0, MOST_CAPACITY, capacity)
+}
+
 // An entry of row `i` of a table is outside its range, in its month.
 pub fn row_outside(table: Table, month: Month, words: &[u64], i: usize) -> bool
     requires { ⌜ i < rows table (now words) ⌝ }
@@ -137,5 +174,6 @@ pub fn row_outside(table: Table, month: Month, words: &[u64], i: usize) -> bool
         Table::Accounts => account_outside(words, i),
         Table::Loads => load_outside(month, words, i),
         Table::Reservations => reservation_outside(words, i),
+        Table::Firm => firm_outside(month, words, i),
     }
 }

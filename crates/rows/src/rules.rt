@@ -9,9 +9,7 @@ use tables::TABLES;
 use tables::Table;
 use tables::columns::ACCOUNT_CUSTOMER;
 use tables::columns::ACCOUNT_ZONE;
-use tables::columns::LOAD_ACCOUNT;
 use tables::columns::OWNER_ZONE;
-use tables::columns::RESERVATION_ACCOUNT;
 use tables::columns::UNIT_OWNER;
 use tables::columns::UNIT_ZONE;
 use tables::columns::entry;
@@ -53,12 +51,9 @@ pub fn row_unlinked<'a>(table: Table, tables: [&'a [u64]; TABLES], i: usize) -> 
             let zone = entry(Table::Accounts, ACCOUNT_ZONE, words, i);
             (zone != 0) & unknown(Table::Zones, tables, zone)
         }
-        Table::Loads => {
-            let account = entry(Table::Loads, LOAD_ACCOUNT, words, i);
-            unknown(Table::Accounts, tables, account)
-        }
-        Table::Reservations => {
-            let account = entry(Table::Reservations, RESERVATION_ACCOUNT, words, i);
+        // Their first entry is an account.
+        Table::Loads | Table::Reservations | Table::Firm => {
+            let account = entry(table, 0, words, i);
             unknown(Table::Accounts, tables, account)
         }
     }
@@ -97,8 +92,8 @@ pub fn row_taken(table: Table, words: &[u64], i: usize) -> bool
     requires { ⌜ i < rows table (now words) ⌝ }
     ensures { λ r. ⌜ r ≡ rowTaken table (now (words .entry)) i ⌝ }
 {
-    if tables::number(table) == answer::ACCOUNTS {
-        return taken(words, i);
+    match table {
+        Table::Accounts => taken(words, i),
+        _ => false,
     }
-    false
 }

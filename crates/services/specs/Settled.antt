@@ -15,13 +15,13 @@ use Rattle.month.specs.Months.{months}
 use Rattle.tables.specs.declared.Table.the-variants.{Zones, Units, Accounts}
 use Rattle.tables.specs.Shape.{limit, rows, Tables}
 use Rattle.tables.specs.Columns.{unitRequirement, unitReserve}
-use Rattle.pool.specs.Input.{Input, monthOf, zoneCount, ownerCount, unitCount}
+use Rattle.pool.specs.Input.{Input, monthOf, plainHead, zoneCount, ownerCount, unitCount}
 use Rattle.pool.specs.Services.{serviceOver, zoneCredits, serviceCredit}
 use Rattle.pool.specs.Filled.{mostUse}
 
 -- a month by its number and its tables alone, which is all that credits and pots come from
 abbrev pub unitsInput : ℕ → Tables → Input
-unitsInput month t = monthOf (record { month = month; days = 0; nonzone = 0 }) t
+unitsInput month t = monthOf (plainHead month 0 0) t
 
 -- No unit's credit is more than the largest annual requirement, of which it has a twelfth, and the largest reserve credit.
 abbrev pub mostCredit : ℕ

@@ -6,7 +6,7 @@ use Prim.Native.Nat.{ℕ, _<_}
 use native.Mathlib.Nat.{zero-add}
 use Rattle.answer.specs.declared.Answer.{Answer}
 use Rattle.answer.specs.Numbers.{DIVISIONS}
-use Rattle.answer.specs.Turns.{accepted, refuse}
+use Rattle.answer.specs.Turns.{accepted, refuse, _then_}
 use Rattle.answer.proofs.Turns.{zero-or-not, refuse-none, then-on}
 use Rattle.lists.specs.Sums.{total}
 use Rattle.division.proofs.Laws.{size-why, size-exactly}
@@ -20,21 +20,22 @@ use Rattle.tables.proofs.Stages.{Stage, passed, stopped, passed-on, then-stage,
 use Rattle.judgement.specs.Judgement.{judged}
 use Rattle.judgement.proofs.Judging.{judged-good, judged-why}
 use Rattle.judgement.proofs.Reasons.{good-unrefused}
-use Rattle.pool.specs.Input.{Input, zoneCount}
+use Rattle.pool.specs.Input.{Input, headOf, zoneCount}
 use Rattle.pool.specs.Network.{chargesIn, networkPots, requirements, networkNonzoneRefusal}
 use Rattle.pool.specs.Services.{serviceIn}
+use Rattle.firm.specs.Firm.{firmPot, firmRefusal}
 use Rattle.settlement.specs.Settled.{
-  headOf,
   networkPlace,
   networkNonzonePlace,
   blackStartPlace,
   reactivePlace,
+  firmPlace,
   networkInTurn,
   divisionsInTurn,
   answerOf,
 }
-use Rattle.settlement.specs.Accepted.{GoodInput, FineNetworkZone, FineNetworkNonzone, ZonesFine, NetworkFine, Accepted}
-use Rattle.settlement.specs.Refused.{Refused, by-tables, at-zone, at-nonzone, in-black-start, in-reactive}
+use Rattle.settlement.specs.Accepted.{GoodInput, FineNetworkZone, FineNetworkNonzone, ZonesFine, NetworkFine, ServicesFine, FineFirm, Accepted}
+use Rattle.settlement.specs.Refused.{Refused, by-tables, at-zone, at-nonzone, in-black-start, in-reactive, at-firm}
 
 -- a network division is not refused exactly where its sizes are fine
 module _ (m : Input) where
@@ -46,6 +47,10 @@ module _ (m : Input) where
   unfolding networkNonzoneRefusal
   nonzone-exactly = size-exactly (chargesIn m 0) (total (requirements m))
 
+  pub firm-exactly : (firmRefusal m ≡ 0) ↔ FineFirm m
+  unfolding firmRefusal
+  firm-exactly = size-exactly (firmPot m) (total (requirements m))
+
   pub zones-pass : (z : ℕ) → ZonesFine m z → (y : ℕ) → y < z → groups.groupRefusal (networkPots m) y ≡ 0
   zones-pass z fine y b = zone-exactly y .1 (fine y b)
 
@@ -54,6 +59,17 @@ module _ (m : Input) where
   network-accepts fine =
       then-on (all-accepted (networkPots m) networkPlace (zones-pass (zoneCount m) (fine .zones-fine)))
       (refuse-none (networkNonzoneRefusal m) DIVISIONS (networkNonzonePlace (zoneCount m)) (nonzone-exactly .1 (fine .nonzone-fine)))
+
+  -- the network and both services
+  pub services-accept : NetworkFine m → ServicesFine m
+      → (networkInTurn m
+      then service.serviceInTurn (serviceIn m blackStart) (blackStartPlace (zoneCount m))
+      then service.serviceInTurn (serviceIn m reactive) (reactivePlace (zoneCount m)))
+      ≡ accepted
+  services-accept network fine =
+      then-on
+      (then-on (network-accepts network) (fine-accepted (serviceIn m blackStart) (blackStartPlace (zoneCount m)) (fine blackStart (inl refl))))
+      (fine-accepted (serviceIn m reactive) (reactivePlace (zoneCount m)) (fine reactive (inr refl)))
 
 module _ (m : Input) (lentCharges lentCredits : ℕ) where
   abbrev Why : Answer → Type 0
@@ -100,28 +116,36 @@ module _ (m : Input) (lentCharges lentCredits : ℕ) where
         (λ (d : service.serviceInTurn (serviceIn m s) place .number ≢ 0). stopped d (because _ (refused-where (serviceIn m s) place d)))
         (zero-or-not (service.serviceInTurn (serviceIn m s) place .number))
 
+    -- both services, behind the network
+    both : service.ServiceFine (serviceIn m blackStart) → service.ServiceFine (serviceIn m reactive) → ServicesFine m
+    both first second s i =
+        ⊎-elim
+        (λ (q : s ≡ blackStart). subst (λ k. service.ServiceFine (serviceIn m k)) (sym q) first)
+        (λ (q : s ≡ reactive). subst (λ k. service.ServiceFine (serviceIn m k)) (sym q) second)
+        i
+
+    firm-stage : NetworkFine m → ServicesFine m → Stage (FineFirm m) Why (refuse (firmRefusal m) DIVISIONS (firmPlace (zoneCount m)))
+    unfolding firmRefusal
+    firm-stage network services =
+        refuse-stage (firmRefusal m) DIVISIONS (firmPlace (zoneCount m)) (firm-exactly m .0)
+        (λ d. at-firm good (firmRefusal m) network services (size-why _ _ _ refl d) refl)
+
     divisions-stage : Stage (Accepted m lentCharges lentCredits) Why (divisionsInTurn m)
     unfolding divisionsInTurn networkInTurn
     divisions-stage =
-        then-stage {G = NetworkFine m × service.ServiceFine (serviceIn m blackStart)}
+        then-stage {G = NetworkFine m × ServicesFine m}
+        (then-stage {G = NetworkFine m × service.ServiceFine (serviceIn m blackStart)}
         (then-stage
         (then-stage zones-stage nonzone-stage)
         (λ network.
         passed-on (λ fine. (network, fine))
         (service-stage blackStart (blackStartPlace (zoneCount m)) (λ r. in-black-start good network))))
         (λ p.
-        passed-on
-        (λ fine.
-        record {
-          good = good;
-          network-fine = p .0;
-          service-fine = λ s i.
-              ⊎-elim
-              (λ (q : s ≡ blackStart). subst (λ k. service.ServiceFine (serviceIn m k)) (sym q) (p .1))
-              (λ (q : s ≡ reactive). subst (λ k. service.ServiceFine (serviceIn m k)) (sym q) fine)
-              i;
-        })
-        (service-stage reactive (reactivePlace (zoneCount m)) (λ r. in-reactive good (p .0) (p .1))))
+        passed-on (λ fine. (p .0, both (p .1) fine))
+        (service-stage reactive (reactivePlace (zoneCount m)) (λ r. in-reactive good (p .0) (p .1)))))
+        (λ p.
+        passed-on (λ fine. record { good = good; network-fine = p .0; service-fine = p .1; firm-fine = fine })
+        (firm-stage (p .0) (p .1)))
 
   answer-stage : Stage (Accepted m lentCharges lentCredits) Why (answerOf m lentCharges lentCredits)
   unfolding answerOf
@@ -143,7 +167,5 @@ module _ (m : Input) (lentCharges lentCredits : ℕ) where
   unfolding answerOf divisionsInTurn
   accepted-answer a =
       then-on (tables-accept (a .good))
-      (then-on
-      (then-on (network-accepts m (a .network-fine))
-      (fine-accepted (serviceIn m blackStart) (blackStartPlace (zoneCount m)) (a .service-fine blackStart (inl refl))))
-      (fine-accepted (serviceIn m reactive) (reactivePlace (zoneCount m)) (a .service-fine reactive (inr refl))))
+      (then-on (services-accept m (a .network-fine) (a .service-fine))
+      (refuse-none (firmRefusal m) DIVISIONS (firmPlace (zoneCount m)) (firm-exactly m .1 (a .firm-fine))))

@@ -10,5 +10,6 @@ pub mod Parts
 pub mod Before
 pub mod Refusing
 pub mod Written
+pub mod Firmless
 pub mod Promises
 pub mod Unique

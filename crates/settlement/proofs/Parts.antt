@@ -33,6 +33,8 @@ use Rattle.pool.specs.Accounts.{contributions, accountUse, networkUse, energyUs
 use Rattle.pool.specs.Network.{networkCharge, networkPots, networkCredit, nonzoneCredit}
 use Rattle.pool.specs.Services.{unitCredit, creditIn, serviceCredit, zoneCredits, serviceIn, serviceCharge}
 use Rattle.pool.proofs.Parts.{network-and-energy-add-up, at-border, with-credits, without-credits, parts-add-up}
+use Rattle.firm.specs.Firm.{firmCharge, firmPot, firmCredit}
+use Rattle.firm.proofs.Promises.{charged-by-own-rows}
 use Rattle.settlement.specs.Accepted.{Accepted}
 use Rattle.settlement.specs.Paid.{isOf, amongAccounts, WithoutRequirement, isSharer, sharerUse, amongSharers, Parted, ServicePaid, Paid, Credited}
 use Rattle.settlement.proofs.Accepting.{zones-pass}
@@ -257,7 +259,7 @@ module _ {m : Input} {lentCharges lentCredits : ℕ} (all : Accepted m lentCharg
 
   -- what an account pays and an owner has, in the paper's words
   pub paid : (a : ℕ) → a < accountCount m → Paid m a
-  unfolding networkCharge
+  unfolding networkCharge firmCharge
   paid a b =
       record {
         for-network = record {
@@ -265,10 +267,11 @@ module _ {m : Input} {lentCharges lentCredits : ℕ} (all : Accepted m lentCharg
           in-zone-0 = λ e. ap (month.chargeAtRate (contributions m a)) (rate-at-the-border m lentCharges lentCredits (all .good) a e);
         };
         for-service = λ s i. service-paid s (all .service-fine s i) a b;
+        for-firm = charged-by-own-rows _ _ _;
       }
 
   pub credited : (o : ℕ) → o < ownerCount m → Credited m o
-  unfolding alone nonzoneCredit serviceCredit creditIn unitCredit twelfth through
+  unfolding alone nonzoneCredit serviceCredit creditIn unitCredit twelfth through firmCredit firmPot
   credited o b =
       record {
         of-its-zone = λ z h e.
@@ -276,4 +279,5 @@ module _ {m : Input} {lentCharges lentCredits : ℕ} (all : Accepted m lentCharg
             ∙ amount-alone (networkPots m) z (zones-unrefused z h) o b (eq-eqb (ownerZone owners o) (zoneNumber zones z) e);
         of-zone-0 = refl;
         of-its-units = λ s. refl;
+        of-firm = refl;
       }

@@ -11,39 +11,46 @@ use mathlib.Core.List.{List, [], _∷_}
 use Rattle.lists.specs.Sums.{sumTo, at, total, when, sumWhere}
 use Rattle.lists.proofs.Sums.{sum-eq, when-eq, where-eq}
 use Rattle.answer.specs.declared.Answer.{Answer}
-use Rattle.answer.specs.Numbers.{BIG, BASE}
-use Rattle.answer.specs.Turns.{accepted}
+use Rattle.answer.specs.Numbers.{BIG, BASE, DIVISIONS}
+use Rattle.answer.specs.Turns.{accepted, refusal}
 use Rattle.groups.specs.Groups.{weightsIn, amount, groupRefusal}
 use Rattle.groups.proofs.Members.{listed-add-up, listed-none}
 use Rattle.groups.proofs.Laws.{pots-divided, pot-divided, members-have-all, weightless-none-at-all}
 use Rattle.service.specs.Service.{bothUses, zoneSide, nonzoneSide, zoneSides, nonzonePot, zoneShare, nonzoneShare}
 use Rattle.service.specs.Turn.{splitRefusal, shareRefusal}
 use Rattle.service.specs.Turn as turn
+use Rattle.division.specs.Limits.{potLimit}
 use Rattle.division.specs.Refused.{FineSize}
 use Rattle.division.specs.Shares.{shares}
 use Rattle.service.proofs.Promises as service
 use Rattle.tables.specs.Shape.{chargeWidth, creditWidth, Tables}
-use Rattle.tables.specs.Columns.{zoneNumber, ownerNumber, ownerZone, ownerRequirement, unitOwner, accountZone, zoneRate, accountNumber, loadAccount, loadDay, loadContribution, reservationAccount, reservationReserved, reservationCurtailed}
+use Rattle.tables.specs.Columns.{zoneNumber, ownerNumber, ownerZone, ownerRequirement, unitOwner, accountZone, zoneRate, accountNumber, loadAccount, loadDay, loadContribution, reservationAccount, reservationReserved, reservationCurtailed, firmDay}
 use Rattle.month.specs.Limits.{blackStart, reactive}
 use Rattle.month.specs.Quantities.{useOf}
-use Rattle.pool.specs.Input.{Input, zoneCount, ownerCount, unitCount, accountCount, loadCount, reservationCount}
+use Rattle.pool.specs.Input.{Input, headOf, zoneCount, ownerCount, unitCount, accountCount, loadCount, reservationCount, firmCount}
 use Rattle.pool.specs.Accounts.{contributions, reserved, curtailed, accountUse, networkUse, energyUse, contributionOn}
 use Rattle.pool.specs.Network.{networkCharge, chargesIn, networkPots, networkCredit, requirements, nonzoneCredit, networkNonzoneRefusal, rate}
 use Rattle.pool.specs.Services.{creditIn, serviceCredit, zoneCredits, zonePot, serviceIn, serviceCharge}
 use Rattle.pool.proofs.Parts as pool
+use Rattle.firm.specs.Weeks.{weekOf, weeks}
+use Rattle.firm.specs.Firm.{termsOf, firmCharge, firmPot, firmCredit, firmRefusal}
+use Rattle.firm.specs.Settled.{Costable}
+use Rattle.firm.proofs.Promises as firm-service
 use Rattle.settlement.specs.Settled.{answerOf, chargeOf, creditOf, Settled}
 use Rattle.settlement.specs.Columns.{
   chargedNetwork,
   chargedBlackStart,
   chargedReactive,
+  chargedFirm,
   creditedNetwork,
   creditedNonzone,
   creditedBlackStart,
   creditedReactive,
+  creditedFirm,
 }
 use Rattle.settlement.specs.Accepted.{IsService, Accepted}
 use Rattle.settlement.specs.Paid.{amongAccounts, amongOwners, WithoutRequirement, isSharer, amongSharers, Parted, Paid, Credited}
-use Rattle.settlement.proofs.Accepting.{zone-exactly, nonzone-exactly, answer-accepted, accepted-answer}
+use Rattle.settlement.proofs.Accepting.{zone-exactly, nonzone-exactly, firm-exactly, answer-accepted, accepted-answer}
 use Rattle.settlement.proofs.Balance as balance
 use Rattle.settlement.specs.Refused.{Refused, Places}
 use Rattle.settlement.proofs.Refusing as refusing
@@ -52,8 +59,10 @@ use Rattle.settlement.proofs.Keys.{no-entry-of}
 use Rattle.settlement.proofs.Days as days
 use Rattle.settlement.proofs.Ranges as ranges
 use Rattle.settlement.specs.Before.{formerService}
+use Rattle.settlement.specs.Firmless.{firmless}
 use Rattle.settlement.proofs.Parts as parts
 use Rattle.settlement.proofs.Before as before
+use Rattle.settlement.proofs.Firmless as without
 
 module _ (m : Input) (lentCharges lentCredits : ℕ) where
   -- a month is accepted, with 0, 0, 0, exactly where its input is good and every division is fine: no such month is refused
@@ -76,6 +85,23 @@ zone-fine-exactly = zone-exactly
 pub nonzone-fine-exactly : (m : Input) → (networkNonzoneRefusal m ≡ 0) ↔ FineSize (chargesIn m 0) (total (requirements m))
 nonzone-fine-exactly = nonzone-exactly
 
+-- .. and so is the firm division ..
+pub firm-fine-exactly : (m : Input) → (firmRefusal m ≡ 0) ↔ FineSize (firmPot m) (total (requirements m))
+firm-fine-exactly = firm-exactly
+
+-- .. "the division comes last, at 5k+3": where a month is refused there, BIG comes from the pot alone, the owners' requirements having been
+-- divided by before, and BASE from owners without requirement
+module _ (m : Input) (lentCharges lentCredits : ℕ) where
+  pub firm-big-by-the-pot : answerOf m lentCharges lentCredits ≡ refusal BIG DIVISIONS (5 * zoneCount m + 3) → potLimit < firmPot m
+  firm-big-by-the-pot e =
+      let why = refusing.last-is-firm m lentCharges lentCredits _ (refused-exactly m lentCharges lentCredits _ .1 (e, omega arith)) refl refl in
+      firm-service.firm-big-by-the-pot m (why .0 .nonzone-fine .weights-fit) (why .1)
+
+  pub firm-base-by-the-requirements : answerOf m lentCharges lentCredits ≡ refusal BASE DIVISIONS (5 * zoneCount m + 3) → total (requirements m) ≡ 0
+  firm-base-by-the-requirements e =
+      let why = refusing.last-is-firm m lentCharges lentCredits _ (refused-exactly m lentCharges lentCredits _ .1 (e, omega arith)) refl refl in
+      firm-service.firm-base-by-the-requirements m (why .1)
+
 -- the places of the services' divisions are the paper's
 pub places-are-the-papers : (m : Input) → Places m
 places-are-the-papers = refusing.places
@@ -86,7 +112,7 @@ module _ {m : Input} {charges chargesAfter credits creditsAfter : List ℕ} {r :
   pub refusal-changes-nothing : r .number ≢ 0 → (chargesAfter ≡ charges) × (creditsAfter ≡ credits)
   refusal-changes-nothing = written.refused-words settled
 
-  -- acceptance writes each account's three charges and each owner's four credits ..
+  -- acceptance writes each account's four charges and each owner's five credits ..
   pub charges-are-written : r .number ≡ 0 → (column a : ℕ) → column < chargeWidth → a < accountCount m
       → at chargesAfter (a * chargeWidth + column) ≡ chargeOf m column a
   charges-are-written = written.charge-word settled
@@ -103,7 +129,7 @@ module _ {m : Input} {charges chargesAfter credits creditsAfter : List ℕ} {r :
   credits-behind-stay = written.behind-credits settled
 
 module _ {m : Input} {lentCharges lentCredits : ℕ} (all : Accepted m lentCharges lentCredits) where
-  open Tables (m .tables) using (zones, owners, accounts, loads, reservations)
+  open Tables (m .tables) using (zones, owners, accounts, loads, reservations, firm)
 
   -- an account's rate is its zone's, or the non-zone rate; its energy is that of its own reservation
   pub rate-is-its-zones : (a z : ℕ) → z < zoneCount m → accountZone accounts a ≡ zoneNumber zones z → rate m a ≡ zoneRate zones z
@@ -124,12 +150,23 @@ module _ {m : Input} {lentCharges lentCredits : ℕ} (all : Accepted m lentCharg
   pub contributions-day-by-day : (a : ℕ) → contributions m a ≡ sumTo (m .days) (λ d. contributionOn m a (d + 1))
   contributions-day-by-day a = days.day-by-day m a lentCharges lentCredits (all .good)
 
-  -- an owner without requirement has no network credit
-  pub no-requirement-no-credit : (o : ℕ) → o < ownerCount m → ownerRequirement owners o ≡ 0 → (networkCredit m o ≡ 0) × (nonzoneCredit m o ≡ 0)
+  -- every firm row can be charged: its day is one of a week, and all its entries are in range
+  pub firm-rows-are-charged : Costable (termsOf (headOf m)) firm
+  firm-rows-are-charged = ranges.settleable m lentCharges lentCredits (all .good) .reservable .costable
+
+  pub firm-days-have-weeks : (i : ℕ) → i < firmCount m → weekOf (m .weekday) (firmDay firm i) < weeks
+  firm-days-have-weeks i b =
+      let can = firm-rows-are-charged in
+      firm-service.week-is-one-of-six (m .weekday) (firmDay firm i) (can .first-weekday) (can .last-weekday) (can .first-day i b) (can .last-day i b)
+
+  -- an owner without requirement has no network credit and no firm credit
+  pub no-requirement-no-credit : (o : ℕ) → o < ownerCount m → ownerRequirement owners o ≡ 0
+      → (networkCredit m o ≡ 0) × (nonzoneCredit m o ≡ 0) × (firmCredit m o ≡ 0)
   unfolding networkCredit nonzoneCredit requirements networkNonzoneRefusal
   no-requirement-no-credit o b e = (
     weightless-none-at-all (networkPots m) (parts.zones-unrefused all) o b e,
     listed-none (chargesIn m 0) (ownerCount m) (ownerRequirement owners) (nonzone-exactly m .1 (all .network-fine .nonzone-fine)) o b e,
+    firm-service.no-requirement-no-credit m (firm-exactly m .1 (all .firm-fine)) o b e,
   )
 
   -- in each zone the network charges of its accounts add up to what its owners have from it ..
@@ -171,6 +208,10 @@ module _ {m : Input} {lentCharges lentCredits : ℕ} (all : Accepted m lentCharg
       ∙ balance.pots-are-credits m lentCharges lentCredits (all .good) s
       ∙ sym (balance.owners-have-credits m lentCharges lentCredits (all .good) s)
 
+  -- over the pool the firm charges add up to the firm credits
+  pub firm-charges-are-credits : sumTo (accountCount m) (firmCharge m) ≡ sumTo (ownerCount m) (firmCredit m)
+  firm-charges-are-credits = sym (firm-service.firm-balanced m (firm-exactly m .1 (all .firm-fine)))
+
   -- all charges equal all credits
   pub all-charges-are-credits : sumTo chargeWidth (λ column. sumTo (accountCount m) (chargeOf m column)) ≡ sumTo creditWidth (λ column. sumTo (ownerCount m) (creditOf m column))
   unfolding sumTo chargeOf creditOf
@@ -182,6 +223,7 @@ module _ {m : Input} {lentCharges lentCredits : ℕ} (all : Accepted m lentCharg
         zone-0-charges-are-nonzone-credits,
         service-charges-are-credits blackStart (inl refl),
         service-charges-are-credits reactive (inr refl),
+        firm-charges-are-credits,
       )
 
   module _ (s : ℕ) (i : IsService s) where
@@ -203,7 +245,7 @@ module _ {m : Input} {lentCharges lentCredits : ℕ} (all : Accepted m lentCharg
         → (zoneSide (serviceIn m s) z ≡ 0) × (nonzoneSide (serviceIn m s) z ≡ 0)
     without-requirement-no-sides = parts.no-sides all s (all .service-fine s i)
 
-    -- .. so an account that has reservations alone there is charged nothing
+    -- .. so an account that has energy reserved alone there is charged nothing for the service
     pub reservations-are-free : (a z : ℕ) → a < accountCount m → z < zoneCount m → accountZone accounts a ≡ zoneNumber zones z
         → WithoutRequirement m s (zoneNumber zones z) → contributions m a ≡ 0 → serviceCharge m s a ≡ 0
     reservations-are-free = parts.reservations-are-free all s (all .service-fine s i)
@@ -217,7 +259,7 @@ module _ {m : Input} {lentCharges lentCredits : ℕ} (all : Accepted m lentCharg
         (λ a b. when-eq (isSharer m s a) (serviceCharge m s a) (nonzoneShare (serviceIn m s) a) (parts.pays-the-nonzone-pot all s (all .service-fine s i) a b))
         ∙ parts.nonzone-pot-to-sharers all s (all .service-fine s i)
 
-    -- an account that uses nothing is charged nothing
+    -- an account that uses nothing is charged nothing for the service
     pub idle-account-is-free : (a : ℕ) → a < accountCount m → accountUse m a ≡ 0 → serviceCharge m s a ≡ 0
     unfolding serviceCharge
     idle-account-is-free a b e =
@@ -259,17 +301,20 @@ module _ {m : Input} {charges chargesAfter credits creditsAfter : List ℕ} {r :
 
   -- by their names they are what each account is charged and each owner credited
   pub written-charges : (a : ℕ) → a < accountCount m
-      → (chargedNetwork chargesAfter a ≡ networkCharge m a) × (chargedBlackStart chargesAfter a ≡ serviceCharge m blackStart a) × (chargedReactive chargesAfter a ≡ serviceCharge m reactive a)
+      → (chargedNetwork chargesAfter a ≡ networkCharge m a) × (chargedBlackStart chargesAfter a ≡ serviceCharge m blackStart a)
+      × (chargedReactive chargesAfter a ≡ serviceCharge m reactive a) × (chargedFirm chargesAfter a ≡ firmCharge m a)
   unfolding chargeOf
   written-charges a b =
-      let word = written.charge-word settled fine in (word 0 a (omega arith) b, word 1 a (omega arith) b, word 2 a (omega arith) b)
+      let word = written.charge-word settled fine in (word 0 a (omega arith) b, word 1 a (omega arith) b, word 2 a (omega arith) b, word 3 a (omega arith) b)
 
   pub written-credits : (o : ℕ) → o < ownerCount m
       → (creditedNetwork creditsAfter o ≡ networkCredit m o) × (creditedNonzone creditsAfter o ≡ nonzoneCredit m o)
       × (creditedBlackStart creditsAfter o ≡ serviceCredit m blackStart o) × (creditedReactive creditsAfter o ≡ serviceCredit m reactive o)
+      × (creditedFirm creditsAfter o ≡ firmCredit m o)
   unfolding creditOf
   written-credits o b =
-      let word = written.credit-word settled fine in (word 0 o (omega arith) b, word 1 o (omega arith) b, word 2 o (omega arith) b, word 3 o (omega arith) b)
+      let word = written.credit-word settled fine in
+      (word 0 o (omega arith) b, word 1 o (omega arith) b, word 2 o (omega arith) b, word 3 o (omega arith) b, word 4 o (omega arith) b)
 
   -- their balance, in which nothing is spoken of but these words and the month's tables
 
@@ -296,18 +341,20 @@ module _ {m : Input} {charges chargesAfter credits creditsAfter : List ℕ} {r :
       sumTo (accountCount m) (chargedBlackStart chargesAfter) ≡ sumTo (ownerCount m) (creditedBlackStart creditsAfter)
   unfolding chargeOf creditOf
   written-black-start-charges-are-credits =
-      written.charges-of-column settled fine 1 (omega arith)
-      ∙ service-charges-are-credits (written.all settled fine) blackStart (inl refl)
-      ∙ sym (written.credits-of-column settled fine 2 (omega arith))
+      written.columns-balance settled fine 1 2 (omega arith) (omega arith) (service-charges-are-credits (written.all settled fine) blackStart (inl refl))
 
-  -- .. and those for reactive
+  -- .. those for reactive ..
   pub written-reactive-charges-are-credits :
       sumTo (accountCount m) (chargedReactive chargesAfter) ≡ sumTo (ownerCount m) (creditedReactive creditsAfter)
   unfolding chargeOf creditOf
   written-reactive-charges-are-credits =
-      written.charges-of-column settled fine 2 (omega arith)
-      ∙ service-charges-are-credits (written.all settled fine) reactive (inr refl)
-      ∙ sym (written.credits-of-column settled fine 3 (omega arith))
+      written.columns-balance settled fine 2 3 (omega arith) (omega arith) (service-charges-are-credits (written.all settled fine) reactive (inr refl))
+
+  -- .. and the firm charges are the firm credits
+  pub written-firm-charges-are-credits : sumTo (accountCount m) (chargedFirm chargesAfter) ≡ sumTo (ownerCount m) (creditedFirm creditsAfter)
+  unfolding chargeOf creditOf
+  written-firm-charges-are-credits =
+      written.columns-balance settled fine 3 4 (omega arith) (omega arith) (firm-charges-are-credits (written.all settled fine))
 
   -- all words that were written to the charges add up to the same as all that were written to the credits
   pub all-written-charges-are-credits : sumTo (accountCount m * chargeWidth) (at chargesAfter) ≡ sumTo (ownerCount m * creditWidth) (at creditsAfter)
@@ -386,3 +433,13 @@ share-never-big m s = service.share-never-big (serviceIn m s)
 -- after splits that are all fine, a service's non-zone pot is never BASE
 pub nonzone-never-base : (m : Input) (s : ℕ) → ((z : ℕ) → z < zoneCount m → splitRefusal (serviceIn m s) z ≡ 0) → turn.nonzoneRefusal (serviceIn m s) ≢ BASE
 nonzone-never-base m s = service.nonzone-never-base (serviceIn m s)
+
+-- firm service changes no other figure: the other charges and credits are those of the month without it, which has no firm charge
+pub other-charges-stay : (m : Input) (column : ℕ) → column < 3 → (a : ℕ) → chargeOf m column a ≡ chargeOf (firmless m) column a
+other-charges-stay = without.same-charges
+
+pub other-credits-stay : (m : Input) (column : ℕ) → column < 4 → (o : ℕ) → creditOf m column o ≡ creditOf (firmless m) column o
+other-credits-stay = without.same-credits
+
+pub firmless-no-charge : (m : Input) (a : ℕ) → firmCharge (firmless m) a ≡ 0
+firmless-no-charge = without.no-firm-charge

@@ -3,7 +3,7 @@
 -- Assumes nothing.
 use mathlib.Core.Bool.{true, false, cond}
 use Prim.Native.Nat.{ℕ, _*_, _^_, _≤_, _<_}
-use native.Mathlib.Nat.{le-refl, lt-of-le-of-lt}
+use native.Mathlib.Nat.{le-refl, le-trans, lt-of-le-of-lt}
 use native.Mathlib.Omega.{arith}
 use mathlib.Core.Path.{_≡_, refl, sym}
 use mathlib.Core.Logic.{_≢_}
@@ -11,7 +11,7 @@ use borrow.Author.Tests.{eq-eqb, ne-eqb}
 use lib.Dec.{eqb}
 use Rattle.lists.proofs.Sums.{sum-at-most, where-mono}
 use Rattle.tables.specs.declared.Table.{Table}
-use Rattle.tables.specs.declared.Table.the-variants.{Zones, Owners, Units, Accounts, Loads, Reservations}
+use Rattle.tables.specs.declared.Table.the-variants.{Zones, Owners, Units, Accounts, Loads, Reservations, Firm}
 use Rattle.tables.specs.Shape.{rows, limit, keyColumns, Tables, wordsOf}
 use Rattle.tables.specs.Columns.{entry, zoneNumber, zoneRate, ownerNumber, unitRequirement, accountNumber, accountZone, loadAccount, loadDay, loadContribution, reservationAccount, reservationReserved, reservationCurtailed}
 use Rattle.judgement.specs.Good.{Above}
@@ -121,7 +121,7 @@ module _ (m : Input) (lentCharges lentCredits : ℕ) (good : GoodInput m lentCha
   unfolding rate rateOf
   rate-within a =
       elim (eqb (accountZone accounts a) 0) as (λ t. cond t (m .nonzone) (zoneRateOf zones (accountZone accounts a)) ≤ mostRate)
-      [ true ↦ good .frame .nonzone-in-range .most | false ↦ zone-rate-within (accountZone accounts a) ]
+      [ true ↦ good .frame .head-in-range .nonzone .most | false ↦ zone-rate-within (accountZone accounts a) ]
 
   pub charge-within : (a : ℕ) → networkCharge m a ≤ mostCharge
   unfolding networkCharge
@@ -165,6 +165,21 @@ module _ (m : Input) (lentCharges lentCredits : ℕ) (good : GoodInput m lentCha
           few-zones = good .frame .counted Zones .few;
           requirement-within = λ u b. good .tables Units u b .in-range .requirement .most;
           reserve-within = λ u b. good .tables Units u b .in-range .reserve .most;
+        };
+        reservable = record {
+          costable = record {
+            few = good .frame .counted Firm .few;
+            daily-within = good .frame .head-in-range .daily .most;
+            weekly-within = good .frame .head-in-range .weekly .most;
+            monthly-within = good .frame .head-in-range .monthly .most;
+            first-weekday = good .frame .head-in-range .weekday .least;
+            last-weekday = good .frame .head-in-range .weekday .most;
+            first-day = λ i b. good .tables Firm i b .in-range .day .least;
+            last-day = λ i b. le-trans (good .tables Firm i b .in-range .day .most) (in-year .short);
+            capacity-within = λ i b. good .tables Firm i b .in-range .capacity .most;
+          };
+          few-accounts = good .frame .counted Accounts .few;
+          few-owners = good .frame .counted Owners .few;
         };
         few-owners = good .frame .counted Owners .few;
         charge-within = charge-within;

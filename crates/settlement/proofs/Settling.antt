@@ -1,7 +1,7 @@
 -- From the parts to the month: what the parts say of the columns that are lent to them is what the paper says of the month.
 -- Assumes nothing.
 use mathlib.Core.Path.{_≡_, refl, sym, ap, ap₂, _∙_, subst}
-use mathlib.Core.Bool.{true, false, cond}
+use mathlib.Core.Bool.{Bool, true, false, cond}
 use mathlib.Core.List.{List}
 use Prim.Native.Nat.{ℕ, zero, suc, _+_, _*_, _≤_, _<_}
 use native.Mathlib.Nat.{le-trans, le-of-eq, lt-of-le-of-lt, zero-add}
@@ -12,11 +12,11 @@ use borrow.Author.Tests.{eq-eqb}
 use Rattle.lists.specs.Sums.{at, total}
 use Rattle.lists.specs.Entries.{listed, put}
 use Rattle.lists.proofs.Sums.{sum-at-most, where-eq}
-use Rattle.lists.proofs.Entries.{length-listed, length-put, put-eq, put-long, at-put}
+use Rattle.lists.proofs.Entries.{length-listed, put-eq, put-long, at-put}
 use Rattle.answer.specs.declared.Answer.{Answer}
 use Rattle.answer.specs.Numbers.{DIVISIONS}
 use Rattle.answer.specs.Turns.{refuse, _then_}
-use Rattle.answer.proofs.Turns.{then-none}
+use Rattle.answer.proofs.Turns.{then-none, refuse-number}
 use Rattle.division.specs.Limits.{sizeRefusal}
 use Rattle.division.specs.Shares.{shares}
 use Rattle.groups.proofs.Same as groups
@@ -28,8 +28,8 @@ use Rattle.tables.specs.Shape.{limit, chargeWidth, creditWidth, Tables}
 use Rattle.tables.specs.Columns.{zoneNumber, ownerRequirement, accountZone}
 use Rattle.month.specs.Limits.{blackStart, reactive}
 use Rattle.columns.specs.Blocks.{columnAt, columnsFrom, withColumns, Zeros}
-use Rattle.columns.proofs.Blocks.{column-zeros, columns-long, part-column, ColumnsLent, columns-lent, ColumnLent, column-lent}
-use Rattle.pool.specs.Input.{Input, zoneCount, ownerCount, accountCount}
+use Rattle.columns.proofs.Blocks.{column-zeros, columns-long, column-long, part-column, ColumnsLent, columns-lent, ColumnLent, column-lent}
+use Rattle.pool.specs.Input.{Input, headOf, zoneCount, ownerCount, accountCount}
 use Rattle.pool.specs.Accounts.{contributions, networkUse, energyUse}
 use Rattle.pool.specs.Network.{rate, networkCharge, chargesIn, potsAmongOwners, networkPots, networkCredit, requirements, nonzoneCredit, networkNonzoneRefusal}
 use Rattle.pool.specs.Services.{unitCredit, creditIn, serviceCredit, zoneCredits, zonePart, nonzonePart, serviceIn, serviceCharge}
@@ -38,8 +38,10 @@ use Rattle.pool.specs.Divided.{chargesFrom, Divisible, CreditColumns, NetworkCr
 use Rattle.pool.proofs.Crediting.{credited-all}
 use Rattle.pool.proofs.Parts.{network-and-energy-add-up}
 use Rattle.services.specs.Settled.{unitsInput, Creditable, serviceFrom, Usable, ServiceSettled}
+use Rattle.firm.specs.Firm.{firmCharge, firmPot, firmCredit, firmRefusal}
+use Rattle.firm.specs.Settled.{firmInput, Reservable, FirmColumns, FirmSettled}
 use Rattle.settlement.specs.Holds.{Holds}
-use Rattle.settlement.specs.Settled.{blackStartPlace, reactivePlace, networkInTurn, divisionsInTurn, chargeOf, creditOf}
+use Rattle.settlement.specs.Settled.{blackStartPlace, reactivePlace, firmPlace, networkInTurn, divisionsInTurn, chargeOf, creditOf}
 use Rattle.settlement.specs.Steps.{Settleable, Working, BlockHolds, MonthDivided}
 
 -- a column that n values were stored in holds them
@@ -57,6 +59,19 @@ pub record Whole (accounts owners : List ℕ) : Type 0 where
 
 pub first-long : {accounts owners : List ℕ} → Whole accounts owners → length (columnAt (limit Accounts) 0 accounts) ≡ limit Accounts
 first-long {accounts} whole = columns-long (limit Accounts) 0 accounts 1 (omega (arith, whole .for-accounts))
+
+-- a column that a call stores n values in, lent of a block ..
+stored-lent : (stride c : ℕ) (block : List ℕ) → (c + 1) * stride ≤ length block → (n : ℕ) (f : ℕ → ℕ) {after : List ℕ}
+    → after ≡ put n f (columnAt stride c block) → ColumnLent stride c block after (withColumns stride c 1 after block)
+stored-lent stride c block room n f {after} e =
+    column-lent stride c block room after (put-long n f (columnAt stride c block) e ∙ column-long stride c block room)
+
+-- .. or leaves as it was
+lent-or-left : (stride c : ℕ) (block : List ℕ) → (c + 1) * stride ≤ length block → (n : ℕ) (f : ℕ → ℕ) (fine : Bool) {after : List ℕ}
+    → after ≡ cond fine (put n f (columnAt stride c block)) (columnAt stride c block) → ColumnLent stride c block after (withColumns stride c 1 after block)
+lent-or-left stride c block room n f true e = stored-lent stride c block room n f e
+lent-or-left stride c block room n f false {after} e =
+    column-lent stride c block room after (ap length e ∙ column-long stride c block room)
 
 -- two columns with the network part and the energy part of each account's use
 pub record UsesHeld (m : Input) (networks energies : List ℕ) : Type 0 where
@@ -79,6 +94,9 @@ module _ (m : Input) where
 
   abbrev forUnits : Input
   forUnits = unitsInput (m .month) (m .tables)
+
+  abbrev forFirm : Input
+  forFirm = firmInput (headOf m) (m .tables)
 
   -- the columns of the accounts
   module _ {charges chargesAfter networks networksAfter energies energiesAfter : List ℕ}
@@ -195,22 +213,24 @@ module _ (m : Input) where
       unfolding serviceCredit creditIn unitCredit
       holds-service-credits long = holds (ownerCount m) (serviceCredit forUnits s) credits creditsAfter (settled .credited) long
 
-      -- its two columns, each lent of a block
-      charges-lent : (c : ℕ) (block : List ℕ) → charges ≡ columnAt (limit Accounts) c block → (c + 1) * limit Accounts ≤ length block
-          → ColumnLent (limit Accounts) c block chargesAfter (withColumns (limit Accounts) c 1 chargesAfter block)
-      charges-lent c block its room =
-          column-lent (limit Accounts) c block room chargesAfter
-          (ap length (served .lent)
-          ∙ (elim (eqb (r .number) 0) as (λ t. length (cond t (put (accountCount m) (service.accountCharge (serviceIn m s)) charges) charges) ≡ length charges)
-          [ true ↦ length-put (accountCount m) _ charges | false ↦ refl ])
-          ∙ ap length its
-          ∙ columns-long (limit Accounts) c block 1 room)
+  -- firm service
+  module _ {place : ℕ} {charges chargesAfter credits creditsAfter : List ℕ} {r : Answer}
+      (settled : FirmSettled forFirm place charges chargesAfter credits creditsAfter r) where
+    firm-answer : r ≡ refuse (firmRefusal m) DIVISIONS place
+    unfolding firmRefusal firmPot firmCharge requirements
+    firm-answer = settled .answer
 
-      credits-lent : (c : ℕ) (block : List ℕ) → credits ≡ columnAt (limit Owners) c block → (c + 1) * limit Owners ≤ length block
-          → ColumnLent (limit Owners) c block creditsAfter (withColumns (limit Owners) c 1 creditsAfter block)
-      credits-lent c block its room =
-          column-lent (limit Owners) c block room creditsAfter
-          (put-long (ownerCount m) (serviceCredit forUnits s) credits (settled .credited) ∙ ap length its ∙ columns-long (limit Owners) c block 1 room)
+    holds-firm-charges : accountCount m ≤ length charges → Holds (accountCount m) (firmCharge m) chargesAfter
+    unfolding firmCharge
+    holds-firm-charges long = holds (accountCount m) (firmCharge forFirm) charges chargesAfter (settled .charged) long
+
+    holds-firm-credits : r .number ≡ 0 → ownerCount m ≤ length credits → Holds (ownerCount m) (firmCredit m) creditsAfter
+    unfolding firmCredit firmPot firmCharge requirements
+    holds-firm-credits fine long =
+        holds (ownerCount m) (firmCredit forFirm) credits creditsAfter (settled .credited ∙ (rw (eq-eqb (firmRefusal forFirm) 0 none))) long
+      where
+        none : firmRefusal forFirm ≡ 0
+        none = sym (refuse-number (firmRefusal forFirm) DIVISIONS place) ∙ ap (λ (a : Answer). a .number) (sym (settled .answer)) ∙ fine
 
   -- two blocks with all their columns, each of which has a word for each account, or owner
   module _ {accountBlock ownerBlock : List ℕ} (can : Settleable m) (whole : Whole accountBlock ownerBlock) where
@@ -228,9 +248,7 @@ module _ (m : Input) where
         (filled : AccountsFilled forAccounts (columnAt (limit Accounts) 0 accountBlock) charges networks networksAfter energies energiesAfter) where
       network-lent : ColumnLent (limit Accounts) 0 accountBlock charges (withColumns (limit Accounts) 0 1 charges accountBlock)
       network-lent =
-          column-lent (limit Accounts) 0 accountBlock (omega (arith, whole .for-accounts)) charges
-          (put-long (accountCount m) (networkCharge forAccounts) (columnAt (limit Accounts) 0 accountBlock) (filled .charged)
-          ∙ columns-long (limit Accounts) 0 accountBlock 1 (omega (arith, whole .for-accounts)))
+          stored-lent (limit Accounts) 0 accountBlock (omega (arith, whole .for-accounts)) (accountCount m) (networkCharge forAccounts) (filled .charged)
 
       filled-whole : Whole (withColumns (limit Accounts) 0 1 charges accountBlock) ownerBlock
       filled-whole = record { for-accounts = network-lent .long ∙ whole .for-accounts; for-owners = whole .for-owners }
@@ -279,10 +297,13 @@ module _ (m : Input) where
     module _ {networks energies : List ℕ} (used : UsesHeld m networks energies) (c d : ℕ) (h : c < chargeWidth) (k : d < creditWidth) {s place : ℕ} {charges credits : List ℕ} {r : Answer}
         (settled : ServiceSettled forUnits (at networks) (at energies) s place (columnAt (limit Accounts) c accountBlock) charges (columnAt (limit Owners) d ownerBlock) credits r) where
       service-charges-lent : ColumnLent (limit Accounts) c accountBlock charges (withColumns (limit Accounts) c 1 charges accountBlock)
-      service-charges-lent = charges-lent used s place settled c accountBlock refl (omega (arith, whole .for-accounts, h))
+      service-charges-lent =
+          lent-or-left (limit Accounts) c accountBlock (omega (arith, whole .for-accounts, h)) (accountCount m) (service.accountCharge (serviceIn m s)) (eqb (r .number) 0)
+          (served used s place settled .lent)
 
       service-credits-lent : ColumnLent (limit Owners) d ownerBlock credits (withColumns (limit Owners) d 1 credits ownerBlock)
-      service-credits-lent = credits-lent used s place settled d ownerBlock refl (omega (arith, whole .for-owners, k))
+      service-credits-lent =
+          stored-lent (limit Owners) d ownerBlock (omega (arith, whole .for-owners, k)) (ownerCount m) (serviceCredit forUnits s) (settled .credited)
 
       served-whole : Whole (withColumns (limit Accounts) c 1 charges accountBlock) (withColumns (limit Owners) d 1 credits ownerBlock)
       served-whole =
@@ -293,6 +314,28 @@ module _ (m : Input) where
 
       credits-of-service : Holds (ownerCount m) (serviceCredit m s) (columnAt (limit Owners) d (withColumns (limit Owners) d 1 credits ownerBlock))
       credits-of-service = carried (service-credits-lent .its) (holds-service-credits used s place settled (owner-column d k))
+
+    -- firm service, lent column c of the accounts and column d of the owners
+    module _ (c d : ℕ) (h : c < chargeWidth) (k : d < creditWidth) {place : ℕ} {charges credits : List ℕ} {r : Answer}
+        (settled : FirmSettled forFirm place (columnAt (limit Accounts) c accountBlock) charges (columnAt (limit Owners) d ownerBlock) credits r) where
+      firm-charges-lent : ColumnLent (limit Accounts) c accountBlock charges (withColumns (limit Accounts) c 1 charges accountBlock)
+      firm-charges-lent =
+          stored-lent (limit Accounts) c accountBlock (omega (arith, whole .for-accounts, h)) (accountCount m) (firmCharge forFirm) (settled .charged)
+
+      firm-credits-lent : ColumnLent (limit Owners) d ownerBlock credits (withColumns (limit Owners) d 1 credits ownerBlock)
+      firm-credits-lent =
+          lent-or-left (limit Owners) d ownerBlock (omega (arith, whole .for-owners, k)) (ownerCount m) (firmCredit forFirm) (eqb (firmRefusal forFirm) 0)
+          (settled .credited)
+
+      firm-whole : Whole (withColumns (limit Accounts) c 1 charges accountBlock) (withColumns (limit Owners) d 1 credits ownerBlock)
+      firm-whole =
+          record { for-accounts = firm-charges-lent .long ∙ whole .for-accounts; for-owners = firm-credits-lent .long ∙ whole .for-owners }
+
+      charges-of-firm : Holds (accountCount m) (firmCharge m) (columnAt (limit Accounts) c (withColumns (limit Accounts) c 1 charges accountBlock))
+      charges-of-firm = carried (firm-charges-lent .its) (holds-firm-charges settled (account-column c h))
+
+      credits-of-firm : r .number ≡ 0 → Holds (ownerCount m) (firmCredit m) (columnAt (limit Owners) d (withColumns (limit Owners) d 1 credits ownerBlock))
+      credits-of-firm fine = carried (firm-credits-lent .its) (holds-firm-credits settled fine (owner-column d k))
 
 -- A month that can be settled, with two new blocks, of which the accounts' first column is filled, and two columns with the parts of
 -- the accounts' use, which were lent with a word for each account that there may be.
@@ -351,7 +394,7 @@ module _ {m : Input} {accounts₀ owners₀ charges lent networks energies : Lis
       pub whole₃ : Whole accounts₂ owners₂
       whole₃ = served-whole m (b .can) whole₂ used 1 2 (omega arith) (omega arith) served
 
-      -- .. and reactive
+      -- .. reactive ..
       module _ {s′ place′ : ℕ} {reactives reactivecredits : List ℕ} {third : Answer}
           (served-too : ServiceSettled (unitsInput (m .month) (m .tables)) (at networks) (at energies) s′ place′ (columnAt (limit Accounts) 2 accounts₂) reactives (columnAt (limit Owners) 3 owners₂) reactivecredits third) where
         abbrev accounts₃ : List ℕ
@@ -363,63 +406,110 @@ module _ {m : Input} {accounts₀ owners₀ charges lent networks energies : Lis
         pub whole₄ : Whole accounts₃ owners₃
         whole₄ = served-whole m (b .can) whole₃ used 2 3 (omega arith) (omega arith) served-too
 
-        module _ (its : s ≡ blackStart) (its-too : s′ ≡ reactive) where
-          one-lent : ColumnLent (limit Accounts) 1 accounts₁ blackstart accounts₂
-          one-lent = service-charges-lent m (b .can) whole₂ used 1 2 (omega arith) (omega arith) served
+        blackstart-lent : ColumnLent (limit Accounts) 1 accounts₁ blackstart accounts₂
+        blackstart-lent = service-charges-lent m (b .can) whole₂ used 1 2 (omega arith) (omega arith) served
 
-          two-lent : ColumnLent (limit Accounts) 2 accounts₂ reactives accounts₃
-          two-lent = service-charges-lent m (b .can) whole₃ used 2 3 (omega arith) (omega arith) served-too
+        reactive-lent : ColumnLent (limit Accounts) 2 accounts₂ reactives accounts₃
+        reactive-lent = service-charges-lent m (b .can) whole₃ used 2 3 (omega arith) (omega arith) served-too
 
-          one-credited : ColumnLent (limit Owners) 2 owners₁ blackstartcredits owners₂
-          one-credited = service-credits-lent m (b .can) whole₂ used 1 2 (omega arith) (omega arith) served
+        blackstart-credited : ColumnLent (limit Owners) 2 owners₁ blackstartcredits owners₂
+        blackstart-credited = service-credits-lent m (b .can) whole₂ used 1 2 (omega arith) (omega arith) served
 
-          two-credited : ColumnLent (limit Owners) 3 owners₂ reactivecredits owners₃
-          two-credited = service-credits-lent m (b .can) whole₃ used 2 3 (omega arith) (omega arith) served-too
+        reactive-credited : ColumnLent (limit Owners) 3 owners₂ reactivecredits owners₃
+        reactive-credited = service-credits-lent m (b .can) whole₃ used 2 3 (omega arith) (omega arith) served-too
 
-          -- what the columns hold at the end, where nothing is refused
-          charge-columns : second .number ≡ 0 → third .number ≡ 0 → BlockHolds (accountCount m) chargeWidth (chargeOf m) (limit Accounts) accounts₃
-          unfolding chargeOf
-          charge-columns fine fine-too zero h = carried (two-lent .others 0 refl ∙ one-lent .others 0 refl) network-charges
-          charge-columns fine fine-too (suc zero) h =
-              carried (two-lent .others 1 refl)
-              (named (accountCount m) (serviceCharge m) its (charges-of-service m (b .can) whole₂ used 1 2 (omega arith) (omega arith) served fine))
-          charge-columns fine fine-too (suc (suc zero)) h =
-              named (accountCount m) (serviceCharge m) its-too (charges-of-service m (b .can) whole₃ used 2 3 (omega arith) (omega arith) served-too fine-too)
-          charge-columns fine fine-too (suc (suc (suc column))) h = absurd (omega (arith, h))
+        -- the last column of the owners is still as it was
+        last-zeros : Zeros (columnAt (limit Owners) 4 owners₃)
+        last-zeros i =
+            ap (λ l. at l i)
+            (reactive-credited .others 4 refl ∙ blackstart-credited .others 4 refl ∙ network-credits-lent m (b .can) whole₁ network-charges divided .behind 2)
+            ∙ column-zeros (limit Owners) 4 owners₀ (b .new .new) i
 
-          credit-columns-hold : first .number ≡ 0 → BlockHolds (ownerCount m) creditWidth (creditOf m) (limit Owners) owners₃
-          unfolding creditOf
-          credit-columns-hold fine zero h =
-              carried (two-credited .others 0 refl ∙ one-credited .others 0 refl) (credits-of-zones m (b .can) whole₁ network-charges divided fine)
-          credit-columns-hold fine (suc zero) h =
-              carried (two-credited .others 1 refl ∙ one-credited .others 1 refl) (credits-of-zone-0 m (b .can) whole₁ network-charges divided fine)
-          credit-columns-hold fine (suc (suc zero)) h =
-              carried (two-credited .others 2 refl)
-              (named (ownerCount m) (serviceCredit m) its (credits-of-service m (b .can) whole₂ used 1 2 (omega arith) (omega arith) served))
-          credit-columns-hold fine (suc (suc (suc zero))) h =
-              named (ownerCount m) (serviceCredit m) its-too (credits-of-service m (b .can) whole₃ used 2 3 (omega arith) (omega arith) served-too)
-          credit-columns-hold fine (suc (suc (suc (suc column)))) h = absurd (omega (arith, h))
+        -- what firm service asks for
+        pub reservable : Reservable (firmInput (headOf m) (m .tables))
+            × FirmColumns (firmInput (headOf m) (m .tables)) (columnAt (limit Accounts) 3 accounts₃) (columnAt (limit Owners) 4 owners₃)
+        reservable = (
+          b .can .reservable,
+          record {
+            charges-long = account-column m (b .can) whole₄ 3 (omega arith);
+            credits-long = owner-column m (b .can) whole₄ 4 (omega arith);
+            zeros = last-zeros;
+          },
+        )
 
-          -- all divisions of the month
-          module _ {r : Answer} (there : place ≡ blackStartPlace (zoneCount m)) (there-too : place′ ≡ reactivePlace (zoneCount m))
-              (answer : r ≡ (first then second then third)) where
-            in-turn : (first then second then third) ≡ divisionsInTurn m
-            unfolding divisionsInTurn
-            in-turn =
-                let network-turn : first ≡ networkInTurn m = network-answer m network-charges divided in
-                let blackstart-turn : second ≡ serviceInTurn (serviceIn m blackStart) (blackStartPlace (zoneCount m)) =
-                service-answer m used s place served ∙ ap₂ (λ k. serviceInTurn (serviceIn m k)) its there in
-                let reactive-turn : third ≡ serviceInTurn (serviceIn m reactive) (reactivePlace (zoneCount m)) =
-                service-answer m used s′ place′ served-too ∙ ap₂ (λ k. serviceInTurn (serviceIn m k)) its-too there-too in
-                λ i. network-turn i then blackstart-turn i then reactive-turn i
+        -- .. and firm service
+        module _ {place″ : ℕ} {firmcharges firmcredits : List ℕ} {fourth : Answer}
+            (firm : FirmSettled (firmInput (headOf m) (m .tables)) place″ (columnAt (limit Accounts) 3 accounts₃) firmcharges (columnAt (limit Owners) 4 owners₃) firmcredits fourth) where
+          abbrev accounts₄ : List ℕ
+          accounts₄ = withColumns (limit Accounts) 3 1 firmcharges accounts₃
 
-            pub month-divided : MonthDivided m accounts₃ owners₃ r
-            month-divided =
-                record {
-                  answer = answer ∙ in-turn;
-                  columns = λ fine.
-                      let all : ((first then second) .number ≡ 0) × (third .number ≡ 0) =
-                      then-none (first then second) third (ap (λ (a : Answer). a .number) (sym answer) ∙ fine) in
-                      let some : (first .number ≡ 0) × (second .number ≡ 0) = then-none first second (all .0) in
-                      record { charges = charge-columns (some .1) (all .1); credits = credit-columns-hold (some .0) };
-                }
+          abbrev owners₄ : List ℕ
+          owners₄ = withColumns (limit Owners) 4 1 firmcredits owners₃
+
+          pub whole₅ : Whole accounts₄ owners₄
+          whole₅ = firm-whole m (b .can) whole₄ 3 4 (omega arith) (omega arith) firm
+
+          firm-lent : ColumnLent (limit Accounts) 3 accounts₃ firmcharges accounts₄
+          firm-lent = firm-charges-lent m (b .can) whole₄ 3 4 (omega arith) (omega arith) firm
+
+          firm-credited : ColumnLent (limit Owners) 4 owners₃ firmcredits owners₄
+          firm-credited = firm-credits-lent m (b .can) whole₄ 3 4 (omega arith) (omega arith) firm
+
+          module _ (its : s ≡ blackStart) (its-too : s′ ≡ reactive) where
+            -- what the columns hold at the end, where nothing is refused
+            charge-columns : second .number ≡ 0 → third .number ≡ 0 → BlockHolds (accountCount m) chargeWidth (chargeOf m) (limit Accounts) accounts₄
+            unfolding chargeOf
+            charge-columns fine fine-too zero h =
+                carried (firm-lent .others 0 refl ∙ reactive-lent .others 0 refl ∙ blackstart-lent .others 0 refl) network-charges
+            charge-columns fine fine-too (suc zero) h =
+                carried (firm-lent .others 1 refl ∙ reactive-lent .others 1 refl)
+                (named (accountCount m) (serviceCharge m) its (charges-of-service m (b .can) whole₂ used 1 2 (omega arith) (omega arith) served fine))
+            charge-columns fine fine-too (suc (suc zero)) h =
+                carried (firm-lent .others 2 refl)
+                (named (accountCount m) (serviceCharge m) its-too (charges-of-service m (b .can) whole₃ used 2 3 (omega arith) (omega arith) served-too fine-too))
+            charge-columns fine fine-too (suc (suc (suc zero))) h = charges-of-firm m (b .can) whole₄ 3 4 (omega arith) (omega arith) firm
+            charge-columns fine fine-too (suc (suc (suc (suc column)))) h = absurd (omega (arith, h))
+
+            credit-columns-hold : first .number ≡ 0 → fourth .number ≡ 0 → BlockHolds (ownerCount m) creditWidth (creditOf m) (limit Owners) owners₄
+            unfolding creditOf
+            credit-columns-hold fine fine-too zero h =
+                carried (firm-credited .others 0 refl ∙ reactive-credited .others 0 refl ∙ blackstart-credited .others 0 refl)
+                (credits-of-zones m (b .can) whole₁ network-charges divided fine)
+            credit-columns-hold fine fine-too (suc zero) h =
+                carried (firm-credited .others 1 refl ∙ reactive-credited .others 1 refl ∙ blackstart-credited .others 1 refl)
+                (credits-of-zone-0 m (b .can) whole₁ network-charges divided fine)
+            credit-columns-hold fine fine-too (suc (suc zero)) h =
+                carried (firm-credited .others 2 refl ∙ reactive-credited .others 2 refl)
+                (named (ownerCount m) (serviceCredit m) its (credits-of-service m (b .can) whole₂ used 1 2 (omega arith) (omega arith) served))
+            credit-columns-hold fine fine-too (suc (suc (suc zero))) h =
+                carried (firm-credited .others 3 refl)
+                (named (ownerCount m) (serviceCredit m) its-too (credits-of-service m (b .can) whole₃ used 2 3 (omega arith) (omega arith) served-too))
+            credit-columns-hold fine fine-too (suc (suc (suc (suc zero)))) h = credits-of-firm m (b .can) whole₄ 3 4 (omega arith) (omega arith) firm fine-too
+            credit-columns-hold fine fine-too (suc (suc (suc (suc (suc column))))) h = absurd (omega (arith, h))
+
+            -- all divisions of the month
+            module _ {r : Answer} (there : place ≡ blackStartPlace (zoneCount m)) (there-too : place′ ≡ reactivePlace (zoneCount m))
+                (there-last : place″ ≡ firmPlace (zoneCount m)) (answer : r ≡ (first then second then third then fourth)) where
+              in-turn : (first then second then third then fourth) ≡ divisionsInTurn m
+              unfolding divisionsInTurn
+              in-turn =
+                  let network-turn : first ≡ networkInTurn m = network-answer m network-charges divided in
+                  let blackstart-turn : second ≡ serviceInTurn (serviceIn m blackStart) (blackStartPlace (zoneCount m)) =
+                  service-answer m used s place served ∙ ap₂ (λ k. serviceInTurn (serviceIn m k)) its there in
+                  let reactive-turn : third ≡ serviceInTurn (serviceIn m reactive) (reactivePlace (zoneCount m)) =
+                  service-answer m used s′ place′ served-too ∙ ap₂ (λ k. serviceInTurn (serviceIn m k)) its-too there-too in
+                  let firm-turn : fourth ≡ refuse (firmRefusal m) DIVISIONS (firmPlace (zoneCount m)) =
+                  firm-answer m firm ∙ ap (refuse (firmRefusal m) DIVISIONS) there-last in
+                  λ i. network-turn i then blackstart-turn i then reactive-turn i then firm-turn i
+
+              pub month-divided : MonthDivided m accounts₄ owners₄ r
+              month-divided =
+                  record {
+                    answer = answer ∙ in-turn;
+                    columns = λ fine.
+                        let all : ((first then second then third) .number ≡ 0) × (fourth .number ≡ 0) =
+                        then-none (first then second then third) fourth (ap (λ (a : Answer). a .number) (sym answer) ∙ fine) in
+                        let more : ((first then second) .number ≡ 0) × (third .number ≡ 0) = then-none (first then second) third (all .0) in
+                        let some : (first .number ≡ 0) × (second .number ≡ 0) = then-none first second (more .0) in
+                        record { charges = charge-columns (some .1) (more .1); credits = credit-columns-hold (some .0) (all .1) };
+                  }

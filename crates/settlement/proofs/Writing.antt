@@ -83,16 +83,16 @@ module _ (head : Head) (t : Tables) (charges credits : List ℕ) where
     told : (judgement .number ≡ 0) × (month ≡ monthIn head)
     told = good-told (monthIn head) month judgement handed
 
-    same-month : monthWith month (head .nonzone) t ≡ monthOf head t
-    same-month = ap (λ k. monthWith k (head .nonzone) t) (told .1)
+    same-month : monthWith month head t ≡ monthOf head t
+    same-month = ap (λ k. monthWith k head t) (told .1)
 
     pub handed-on : GoodInput (monthOf head t) (length charges) (length credits)
     handed-on = judged-good head t (length charges) (length credits) (told .0)
 
-    pub can-settle : Settleable (monthWith month (head .nonzone) t)
+    pub can-settle : Settleable (monthWith month head t)
     can-settle = subst Settleable (sym same-month) (settleable (monthOf head t) (length charges) (length credits) handed-on)
 
-    pub all-settled : {chargesAfter creditsAfter : List ℕ} {r : Answer} → GoodSettled (monthWith month (head .nonzone) t) charges chargesAfter credits creditsAfter r
+    pub all-settled : {chargesAfter creditsAfter : List ℕ} {r : Answer} → GoodSettled (monthWith month head t) charges chargesAfter credits creditsAfter r
         → Settled (monthOf head t) charges chargesAfter credits creditsAfter r
     unfolding answerOf
     all-settled {chargesAfter} {creditsAfter} {r} settled =

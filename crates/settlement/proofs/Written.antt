@@ -131,6 +131,11 @@ module _ {m : Input} {charges chargesAfter credits creditsAfter : List ℕ} {r :
         → sumTo (ownerCount m) (figureAt creditWidth creditsAfter column) ≡ sumTo (ownerCount m) (creditOf m column)
     credits-of-column = column-held (ownerCount m) creditWidth (creditOf m) creditsAfter credits-held
 
+    -- where a column of charges comes to what one of credits does, so do the words
+    pub columns-balance : (c d : ℕ) → c < chargeWidth → d < creditWidth → sumTo (accountCount m) (chargeOf m c) ≡ sumTo (ownerCount m) (creditOf m d)
+        → sumTo (accountCount m) (figureAt chargeWidth chargesAfter c) ≡ sumTo (ownerCount m) (figureAt creditWidth creditsAfter d)
+    columns-balance c d h k same = charges-of-column c h ∙ same ∙ sym (credits-of-column d k)
+
     -- all of them
     pub all-charges : sumTo (accountCount m * chargeWidth) (at chargesAfter) ≡ sumTo chargeWidth (λ column. sumTo (accountCount m) (chargeOf m column))
     all-charges = sum-held (accountCount m) chargeWidth (chargeOf m) chargesAfter charges-held

@@ -10,10 +10,10 @@ use Rattle.service.specs.Turn as service
 use Rattle.tables.specs.Columns.{zoneNumber}
 use Rattle.month.specs.Limits.{blackStart, reactive}
 use Rattle.judgement.specs.Good.{GoodMonth}
-use Rattle.pool.specs.Input.{Input, zoneCount}
+use Rattle.pool.specs.Input.{Input, headOf, zoneCount}
 use Rattle.pool.specs.Network.{chargesIn, networkPots, requirements}
 use Rattle.pool.specs.Services.{serviceIn}
-use Rattle.settlement.specs.Settled.{headOf}
+use Rattle.firm.specs.Firm.{firmPot}
 
 -- an input that keeps every rule of the tables; the numbers are the lengths of the lent outputs
 abbrev pub GoodInput : Input → ℕ → ℕ → Type 0
@@ -40,8 +40,17 @@ pub record NetworkFine (m : Input) : Type 0 where
   pub zones-fine : ZonesFine m (zoneCount m)
   pub nonzone-fine : FineNetworkNonzone m
 
+-- both services are
+abbrev pub ServicesFine : Input → Type 0
+ServicesFine m = (s : ℕ) → IsService s → service.ServiceFine (serviceIn m s)
+
+-- the firm division is: "All charges make one pot, divided among all owners by requirement"
+abbrev pub FineFirm : Input → Type 0
+FineFirm m = FineSize (firmPot m) (total (requirements m))
+
 -- the input is good, and every division is fine
 pub record Accepted (m : Input) (lentCharges lentCredits : ℕ) : Type 0 where
   pub good : GoodInput m lentCharges lentCredits
   pub network-fine : NetworkFine m
-  pub service-fine : (s : ℕ) → IsService s → service.ServiceFine (serviceIn m s)
+  pub service-fine : ServicesFine m
+  pub firm-fine : FineFirm m

@@ -9,7 +9,7 @@ use Rattle.tables.specs.Shape.{chargeWidth, creditWidth}
 abbrev pub figureAt : ℕ → List ℕ → ℕ → ℕ → ℕ
 figureAt width words column i = at words (i * width + column)
 
--- "every account row's three charges (network, black start, reactive)": those of account a
+-- "every account row's three charges (network, black start, reactive)" and the firm one: those of account a
 abbrev pub chargedNetwork : List ℕ → ℕ → ℕ
 chargedNetwork charges a = figureAt chargeWidth charges 0 a
 
@@ -19,7 +19,10 @@ chargedBlackStart charges a = figureAt chargeWidth charges 1 a
 abbrev pub chargedReactive : List ℕ → ℕ → ℕ
 chargedReactive charges a = figureAt chargeWidth charges 2 a
 
--- "every owner's four credits (network, non-zone network, black start, reactive)": those of owner o
+abbrev pub chargedFirm : List ℕ → ℕ → ℕ
+chargedFirm charges a = figureAt chargeWidth charges 3 a
+
+-- "every owner's four credits (network, non-zone network, black start, reactive)" and the firm one: those of owner o
 abbrev pub creditedNetwork : List ℕ → ℕ → ℕ
 creditedNetwork credits o = figureAt creditWidth credits 0 o
 
@@ -31,3 +34,6 @@ creditedBlackStart credits o = figureAt creditWidth credits 2 o
 
 abbrev pub creditedReactive : List ℕ → ℕ → ℕ
 creditedReactive credits o = figureAt creditWidth credits 3 o
+
+abbrev pub creditedFirm : List ℕ → ℕ → ℕ
+creditedFirm credits o = figureAt creditWidth credits 4 o

@@ -4,5 +4,6 @@ pub mod Columns
 pub mod Accepted
 pub mod Paid
 pub mod Before
+pub mod Firmless
 pub mod Refused
 pub mod Steps

@@ -6,17 +6,19 @@ use mathlib.Core.Logic.{_≢_}
 use Prim.Native.Nat.{ℕ, _+_, _-_, _*_, _/_, _<_}
 use mathlib.Core.Bool.{Bool, cond, _||_}
 use lib.Dec.{eqb}
-use Rattle.lists.specs.Sums.{at, when, count, sumWhere}
+use Rattle.lists.specs.Sums.{at, when, count, sumTo, sumWhere}
 use Rattle.lists.specs.Entries.{kept}
 use Rattle.division.specs.Shares.{shares}
 use Rattle.service.specs.Service.{zoneSide, nonzonePot}
 use Rattle.tables.specs.Shape.{Tables}
-use Rattle.tables.specs.Columns.{zoneNumber, zoneRate, ownerNumber, ownerZone, ownerRequirement, unitOwner, unitZone, unitService, unitRequirement, unitReserve, accountZone}
+use Rattle.tables.specs.Columns.{zoneNumber, zoneRate, ownerNumber, ownerZone, ownerRequirement, unitOwner, unitZone, unitService, unitRequirement, unitReserve, accountNumber, accountZone}
 use Rattle.month.specs.Quantities as month
-use Rattle.pool.specs.Input.{Input, zoneCount, ownerCount, unitCount, accountCount}
+use Rattle.pool.specs.Input.{Input, headOf, zoneCount, ownerCount, unitCount, accountCount}
 use Rattle.pool.specs.Accounts.{contributions, accountUse, networkUse, energyUse}
 use Rattle.pool.specs.Network.{networkCharge, chargesIn, networkCredit, requirements, nonzoneCredit}
 use Rattle.pool.specs.Services.{unitCredit, serviceCredit, zoneCredits, serviceIn, serviceCharge}
+use Rattle.firm.specs.Firm.{termsOf, firmCharge, firmCredit}
+use Rattle.firm.specs.Own.{daysIn, othersOf, costOf}
 use Rattle.settlement.specs.Accepted.{IsService}
 
 -- "its owners", "that zone's accounts": whether row i, of rows with a zone each, is one of the zone's
@@ -29,7 +31,7 @@ abbrev pub shareAmong : ℕ → (ℕ → Bool) → (ℕ → ℕ) → ℕ → ℕ
 shareAmong n test weight pot i = at (shares pot (kept n test weight)) (count i test)
 
 module _ (m : Input) where
-  open Tables (m .tables) using (zones, owners, units, accounts)
+  open Tables (m .tables) using (zones, owners, units, accounts, firm)
 
   -- ".. among that zone's accounts by use"
   abbrev pub amongAccounts : ℕ → ℕ → ℕ → ℕ
@@ -81,13 +83,22 @@ module _ (m : Input) where
         → serviceCharge m s a ≡ amongSharers s (nonzonePot (serviceIn m s)) a
     pub in-zone-0 : accountZone accounts a ≡ 0 → serviceCharge m s a ≡ amongSharers s (nonzonePot (serviceIn m s)) a
 
+  -- for firm service an account pays by its own rows, as lists of their own: what its daily rows cost, week by week, and what each other
+  -- row costs
+  abbrev pub FirmPaid : ℕ → Type 0
+  FirmPaid a =
+      firmCharge m a
+      ≡ costOf (termsOf (headOf m)) (daysIn (termsOf (headOf m)) firm (accountNumber accounts a)) (othersOf (termsOf (headOf m)) firm (accountNumber accounts a))
+
   -- all that account a pays
   pub record Paid (a : ℕ) : Type 0 where
     pub for-network : NetworkPaid a
     pub for-service : (s : ℕ) → IsService s → ServicePaid s a
+    pub for-firm : FirmPaid a
 
   -- "a zone's charges are divided among its owners by requirement. The charges of zone 0 are divided among all owners by requirement",
-  -- "The owner is credited with the sum" of its units' months: all that owner o has
+  -- "The owner is credited with the sum" of its units' months, and the firm charges "make one pot, divided among all owners by
+  -- requirement": all that owner o has
   pub record Credited (o : ℕ) : Type 0 where
     pub of-its-zone : (z : ℕ) → z < zoneCount m → ownerZone owners o ≡ zoneNumber zones z
         → networkCredit m o ≡ amongOwners (chargesIn m (zoneNumber zones z)) (zoneNumber zones z) o
@@ -99,3 +110,4 @@ module _ (m : Input) where
         when (eqb (unitService units u) s)
         (unitRequirement units u * m .month / 12 - unitRequirement units u * (m .month - 1) / 12 + unitReserve units u))
         (ownerNumber owners o)
+    pub of-firm : firmCredit m o ≡ at (shares (sumTo (accountCount m) (firmCharge m)) (requirements m)) o

@@ -12,11 +12,12 @@ use Rattle.service.specs.Turn as service
 use Rattle.tables.specs.Columns.{zoneNumber}
 use Rattle.month.specs.Limits.{blackStart, reactive}
 use Rattle.judgement.specs.Refused as judgement
-use Rattle.pool.specs.Input.{Input, zoneCount}
+use Rattle.pool.specs.Input.{Input, headOf, zoneCount}
 use Rattle.pool.specs.Network.{chargesIn, networkPots, requirements}
 use Rattle.pool.specs.Services.{serviceIn}
-use Rattle.settlement.specs.Settled.{headOf, blackStartPlace, reactivePlace}
-use Rattle.settlement.specs.Accepted.{GoodInput, ZonesFine, NetworkFine}
+use Rattle.firm.specs.Firm.{firmPot}
+use Rattle.settlement.specs.Settled.{blackStartPlace, reactivePlace}
+use Rattle.settlement.specs.Accepted.{GoodInput, ZonesFine, NetworkFine, ServicesFine}
 
 module _ (m : Input) (lentCharges lentCredits : ℕ) where
   pub data Refused (r : Answer) : Type 0 where
@@ -34,6 +35,9 @@ module _ (m : Input) (lentCharges lentCredits : ℕ) where
     -- at a division of reactive, whose places start at 3k+2
     in-reactive : GoodInput m lentCharges lentCredits → NetworkFine m → service.ServiceFine (serviceIn m blackStart)
         → service.RefusedAt (serviceIn m reactive) (reactivePlace (zoneCount m)) r → Refused r
+    -- "the division comes last, at 5k+3"
+    at-firm : GoodInput m lentCharges lentCredits → (n : ℕ) → NetworkFine m → ServicesFine m
+        → SizeRefused (firmPot m) (total (requirements m)) n → r ≡ refusal n DIVISIONS (5 * zoneCount m + 3) → Refused r
 
 -- "black start zone i split k+1+2i and share k+2+2i, its non-zone 3k+1, reactive split 3k+2+2i, share 3k+3+2i, non-zone 5k+2"
 pub record Places (m : Input) : Type 0 where

@@ -12,17 +12,13 @@ use Rattle.answer.specs.Numbers.{DIVISIONS}
 use Rattle.answer.specs.Turns.{refuse, _then_}
 use Rattle.groups.specs.Groups as groups
 use Rattle.service.specs.Turn as service
-use Rattle.tables.specs.declared.Head.{Head}
 use Rattle.tables.specs.Shape.{chargeWidth, creditWidth}
 use Rattle.month.specs.Limits.{blackStart, reactive}
 use Rattle.judgement.specs.Judgement.{judged}
-use Rattle.pool.specs.Input.{Input, zoneCount, ownerCount, accountCount}
+use Rattle.pool.specs.Input.{Input, headOf, zoneCount, ownerCount, accountCount}
 use Rattle.pool.specs.Network.{networkCharge, networkPots, networkCredit, nonzoneCredit, networkNonzoneRefusal}
 use Rattle.pool.specs.Services.{serviceIn, serviceCharge, serviceCredit}
-
--- "The head is three plain numbers": those of a month's input
-abbrev pub headOf : Input → Head
-headOf m = record { month = m .month; days = m .days; nonzone = m .nonzone }
+use Rattle.firm.specs.Firm.{firmCharge, firmCredit, firmRefusal}
 
 -- "with k zones, network zones 0..k-1, network non-zone k ..": where each kind of division starts
 abbrev pub networkPlace : ℕ
@@ -37,6 +33,10 @@ blackStartPlace k = k + 1
 
 abbrev pub reactivePlace : ℕ → ℕ
 reactivePlace k = 3 * k + 2
+
+-- "the division comes last, at 5k+3"
+abbrev pub firmPlace : ℕ → ℕ
+firmPlace k = 5 * k + 3
 
 -- a row's figures in the order of its columns, whatever their number: what the function at a column's place in a list says of the row
 abbrev pub figureOf : List (ℕ → ℕ) → ℕ → ℕ → ℕ
@@ -58,6 +58,7 @@ module _ (m : Input) where
       networkInTurn
       then service.serviceInTurn (serviceIn m blackStart) (blackStartPlace (zoneCount m))
       then service.serviceInTurn (serviceIn m reactive) (reactivePlace (zoneCount m))
+      then refuse (firmRefusal m) DIVISIONS (firmPlace (zoneCount m))
 
   -- "A settlement looks at COUNT .. in a row RANGE, ORDER, LINK, PAIR, then its divisions in turn"; the arguments are the lengths
   -- of the lent outputs
@@ -65,13 +66,13 @@ module _ (m : Input) where
   answerOf lentCharges lentCredits =
       judged (headOf m) (m .tables) lentCharges lentCredits then divisionsInTurn
 
-  -- "every account row's three charges (network, black start, reactive)": `chargeOf column a`
+  -- "every account row's three charges (network, black start, reactive)" and the firm one, the "last figure": `chargeOf column a`
   unfoldable pub chargeOf : ℕ → ℕ → ℕ
-  chargeOf = figureOf (networkCharge m ∷ serviceCharge m blackStart ∷ serviceCharge m reactive ∷ [])
+  chargeOf = figureOf (networkCharge m ∷ serviceCharge m blackStart ∷ serviceCharge m reactive ∷ firmCharge m ∷ [])
 
-  -- "every owner's four credits (network, non-zone network, black start, reactive)": `creditOf column o`
+  -- "every owner's four credits (network, non-zone network, black start, reactive)" and the firm one: `creditOf column o`
   unfoldable pub creditOf : ℕ → ℕ → ℕ
-  creditOf = figureOf (networkCredit m ∷ nonzoneCredit m ∷ serviceCredit m blackStart ∷ serviceCredit m reactive ∷ [])
+  creditOf = figureOf (networkCredit m ∷ nonzoneCredit m ∷ serviceCredit m blackStart ∷ serviceCredit m reactive ∷ firmCredit m ∷ [])
 
   -- "writes only the rows named": the lent words after an acceptance
   unfoldable pub chargeWords : List ℕ → List ℕ

@@ -1,6 +1,6 @@
-// The settlement of a month, from the head and tables 1 to 6 as plain numbers: its answer, and the lent outputs. An input is judged
-// first, then every division is made in working columns, with `pool`'s charges and credits and those of `services`, and only a month
-// that is accepted writes to the lent outputs. `specs/` says what is answered and written, `proofs/Promises.antt` what follows from it.
+// The settlement of a month, from its head and its tables as plain numbers: its answer, and the lent outputs. An input is judged
+// first, then every division is made in working columns, with the charges and credits of `pool`, `services` and `firm`, and only a
+// month that is accepted writes to the lent outputs. `specs/` says what is answered and written, `proofs/Promises.antt` what follows from it.
 ghost use mathlib.Core.List.{map};
 ghost use Prim.Native.Nat.{_*_, _≤_};
 ghost use lib.ListN.{length};
@@ -26,37 +26,42 @@ use tables::Table;
 
 mod output;
 
-// Where each column of the accounts' block ends: their charges for the network, black start, reactive.
+// Where each column of the accounts' block ends: their charges for the network, black start, reactive, firm service.
 const NETWORK_CHARGES_END: usize = MOST_ACCOUNTS;
 
-const BLACK_START_CHARGES_END: usize = 2 * MOST_ACCOUNTS;
+const BLACK_START_CHARGES_END: usize = NETWORK_CHARGES_END + MOST_ACCOUNTS;
 
-const REACTIVE_CHARGES_END: usize = CHARGE_WIDTH * MOST_ACCOUNTS;
+const REACTIVE_CHARGES_END: usize = BLACK_START_CHARGES_END + MOST_ACCOUNTS;
 
-// Where the columns of the owners' block end: their credits of the network, two columns with the non-zone ones, black start, reactive.
+const FIRM_CHARGES_END: usize = REACTIVE_CHARGES_END + MOST_ACCOUNTS;
+
+// Where the columns of the owners' block end: their credits of the network, two columns with the non-zone ones, black start, reactive,
+// firm service.
 const NETWORK_CREDITS_END: usize = 2 * MOST_OWNERS;
 
-const BLACK_START_CREDITS_END: usize = 3 * MOST_OWNERS;
+const BLACK_START_CREDITS_END: usize = NETWORK_CREDITS_END + MOST_OWNERS;
 
-const REACTIVE_CREDITS_END: usize = CREDIT_WIDTH * MOST_OWNERS;
+const REACTIVE_CREDITS_END: usize = BLACK_START_CREDITS_END + MOST_OWNERS;
+
+const FIRM_CREDITS_END: usize = REACTIVE_CREDITS_END + MOST_OWNERS;
 
 // Makes every division of a good month, in two lent blocks: a column for each charge with a word for each account, and one for each
 // credit with a word for each owner.
 fn divide_month<'a>(
     month: Month,
-    nonzone: u64,
+    head: Head,
     tables: [&'a [u64]; TABLES],
     accounts: &mut [u64],
     owners: &mut [u64],
 ) -> Answer
-    requires { ⌜ Settleable (monthWith month nonzone (tablesFrom (map now tables))) × Working (now accounts) (now owners) ⌝ }
-    ensures { λ r. ⌜ MonthDivided (monthWith month nonzone (tablesFrom (map now (tables .entry)))) (now (accounts .exit)) (now (owners .exit)) r ⌝ }
+    requires { ⌜ Settleable (monthWith month head (tablesFrom (map now tables))) × Working (now accounts) (now owners) ⌝ }
+    ensures { λ r. ⌜ MonthDivided (monthWith month head (tablesFrom (map now (tables .entry)))) (now (accounts .exit)) (now (owners .exit)) r ⌝ }
 {
     let count = columns::rows_of(tables, Table::Zones) as u64;
     let mut networks = [0u64; MOST_ACCOUNTS];
     let mut energies = [0u64; MOST_ACCOUNTS];
     accounts::fill(
-        nonzone,
+        head.nonzone,
         tables,
         &mut accounts[..NETWORK_CHARGES_END],
         &mut networks,
@@ -67,7 +72,8 @@ fn divide_month<'a>(
         &accounts[..NETWORK_CHARGES_END],
         &mut owners[..NETWORK_CREDITS_END],
     );
-    // With k zones the network has k + 1 divisions, so black start's begin at k + 1; it has 2k + 1, so reactive's begin at 3k + 2.
+    // With k zones the network has k + 1 divisions, so black start's begin at k + 1; it has 2k + 1, so reactive's begin at 3k + 2, and
+    // the firm one stands at 5k + 3.
     let second = services::settle(
         BLACK_START,
         month,
@@ -88,24 +94,34 @@ fn divide_month<'a>(
         &mut owners[BLACK_START_CREDITS_END..REACTIVE_CREDITS_END],
         3 * count + 2,
     );
-    answer::in_turn(answer::in_turn(first, second), third)
+    let fourth = firm::settle(
+        head,
+        tables,
+        &mut accounts[REACTIVE_CHARGES_END..FIRM_CHARGES_END],
+        &mut owners[REACTIVE_CREDITS_END..FIRM_CREDITS_END],
+        5 * count + 3,
+    );
+    answer::in_turn(
+        answer::in_turn(answer::in_turn(first, second), third),
+        fourth,
+    )
 }
 
 // Settles a good month, with columns of its own.
 fn settle_good<'a>(
     month: Month,
-    nonzone: u64,
+    head: Head,
     tables: [&'a [u64]; TABLES],
     charges: &mut [u64],
     credits: &mut [u64],
 ) -> Answer
-    requires { ⌜ Settleable (monthWith month nonzone (tablesFrom (map now tables))) ⌝ }
-    requires { ⌜ (accountCount (monthWith month nonzone (tablesFrom (map now tables))) * chargeWidth ≤ length (now charges)) × (ownerCount (monthWith month nonzone (tablesFrom (map now tables))) * creditWidth ≤ length (now credits)) ⌝ }
-    ensures { λ r. ⌜ GoodSettled (monthWith month nonzone (tablesFrom (map now (tables .entry)))) (now (charges .entry)) (now (charges .exit)) (now (credits .entry)) (now (credits .exit)) r ⌝ }
+    requires { ⌜ Settleable (monthWith month head (tablesFrom (map now tables))) ⌝ }
+    requires { ⌜ (accountCount (monthWith month head (tablesFrom (map now tables))) * chargeWidth ≤ length (now charges)) × (ownerCount (monthWith month head (tablesFrom (map now tables))) * creditWidth ≤ length (now credits)) ⌝ }
+    ensures { λ r. ⌜ GoodSettled (monthWith month head (tablesFrom (map now (tables .entry)))) (now (charges .entry)) (now (charges .exit)) (now (credits .entry)) (now (credits .exit)) r ⌝ }
 {
     let mut accounts = [0u64; CHARGE_WIDTH * MOST_ACCOUNTS];
     let mut owners = [0u64; CREDIT_WIDTH * MOST_OWNERS];
-    let answer = divide_month(month, nonzone, tables, &mut accounts, &mut owners);
+    let answer = divide_month(month, head, tables, &mut accounts, &mut owners);
     let number = answer.number;
     if number != ACCEPTED {
         return answer;
@@ -129,9 +145,9 @@ fn settle_good<'a>(
 
 // Settles a month. Answers what `judgement::judge` refuses; then the first division that is refused, with BIG or BASE, as table 9 with
 // its place as row: with k zones, network zones 0 to k - 1, network non-zone k, then black start and reactive, each zone's split and
-// share in turn and last its non-zone pot. A refusal writes nothing. Acceptance is 0, 0, 0, and writes each account's charges
-// (network, black start, reactive) to the first words of `charges`, row by row, and each owner's credits (network, non-zone network,
-// black start, reactive) to the first words of `credits`; the words behind them stay.
+// share in turn and last its non-zone pot, then the firm one at 5k + 3. A refusal writes nothing. Acceptance is 0, 0, 0, and writes
+// each account's charges (network, black start, reactive, firm) to the first words of `charges`, row by row, and each owner's credits
+// (network, non-zone network, black start, reactive, firm) to the first words of `credits`; the words behind them stay.
 pub fn settle<'a>(
     head: Head,
     tables: [&'a [u64]; TABLES],
@@ -141,7 +157,7 @@ pub fn settle<'a>(
     ensures { λ r. ⌜ Settled (monthOf head (tablesFrom (map now (tables .entry)))) (now (charges .entry)) (now (charges .exit)) (now (credits .entry)) (now (credits .exit)) r ⌝ }
 {
     match judgement::judge(head, tables, charges.len(), credits.len()) {
-        Judged::Good(month) => settle_good(month, head.nonzone, tables, charges, credits),
+        Judged::Good(month) => settle_good(month, head, tables, charges, credits),
         Judged::Refused(answer) => answer,
     }
 }

@@ -1,7 +1,9 @@
 pub mod Totals
 pub mod Held
 pub mod Stating
+pub mod Widths
 pub mod Sizes
+pub mod FileSizes
 pub mod Printing
 pub mod Telling
 pub mod Promises

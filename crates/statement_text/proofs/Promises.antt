@@ -5,22 +5,29 @@ use mathlib.Core.Path.{_≡_, ap, _∙_}
 use mathlib.Core.Logic.{_≢_}
 use mathlib.Core.List.{List, [], _∷_, _++_}
 use Prim.Native.Nat.{ℕ, _+_, _≤_, _<_}
+use native.Mathlib.Omega.{arith}
 use lib.ListN.{length, take, drop}
 use Rattle.answer.specs.declared.Answer.{Answer}
 use Rattle.answer.specs.Turns.{refuse}
-use Rattle.tables.specs.Shape.{chargeWidth, creditWidth}
+use Rattle.tables.specs.declared.Head.{Head}
+use Rattle.tables.specs.Shape.{chargeWidth, creditWidth, Tables}
+use Rattle.judgement.specs.Good.{GoodMonth}
 use Rattle.text.specs.Bytes.{bytes}
 use Rattle.text.specs.Numbers.{digits, decimal, Below}
 use Rattle.text.specs.Lines.{fieldsText, lineText}
 use Rattle.fileform.specs.Form.{monthForm}
 use Rattle.fileform.specs.Reading.{got, refused, Contents, reading}
-use Rattle.pool.specs.Input.{Input}
+use Rattle.fileform.specs.Writing.{ContentsFit}
+use Rattle.filewrite.specs.Calls.{contentsOf, monthText}
+use Rattle.monthfile.proofs.Promises.{written-then-read}
+use Rattle.pool.specs.Input.{Input, monthOf}
 use Rattle.statement_lines.specs.Lines.{refuseLine}
 use Rattle.statement_text.specs.Statement.{
   allCharges,
   allCredits,
   statementLines,
   settledAnswer,
+  settledText,
   monthHeld,
   foundText,
   mostBytes,
@@ -33,6 +40,7 @@ use Rattle.statement_text.specs.Told.{SameFigures}
 use Rattle.statement_text.proofs.Totals as totals
 use Rattle.statement_text.proofs.Stating as stating
 use Rattle.statement_text.proofs.Sizes as sizes
+use Rattle.statement_text.proofs.FileSizes as files
 use Rattle.statement_text.proofs.Printing as printing
 use Rattle.statement_text.proofs.Telling as telling
 
@@ -96,7 +104,7 @@ pub too-long-is-refused : (text : List ℕ) → mostBytes < length text → stat
 unfolding refuse refuseLine lineText fieldsText decimal digits
 too-long-is-refused text h = stating.long-text text h
 
--- the program's own call: where the first 32,769 bytes of a file are held, all of a shorter one, that file's statement is written, whole,
+-- the program's own call: where the first 65,537 bytes of a file are held, all of a shorter one, that file's statement is written, whole,
 -- and whatever bytes the file has behind those change nothing
 pub file-is-stated : (file held : List ℕ) (count : ℕ) (lent after : List ℕ) (r : ℕ) → FileStated held count lent after r
     → take count held ≡ take (mostBytes + 1) file
@@ -105,6 +113,17 @@ file-is-stated file held count lent after r stated e =
     let same : statementOf (take count held) ≡ statementOf file = ap statementOf e ∙ sizes.first-bytes-tell file in
     (stated .length-is ∙ ap length same, stated .stores ∙ ap (λ l. l ++ drop (length l) lent) same)
 
--- no statement has more than `mostShown` bytes, 10,128, so that no room of that size is too short
+-- no statement has more than `mostShown` bytes, 12,144, so that no room of that size is too short
 pub statement-is-short : (text : List ℕ) → length (statementOf text) ≤ mostShown
 statement-is-short = sizes.statement-short
+
+-- the file of a good month has 52,793 bytes at most, so that none is refused for its length
+pub good-file-fits : {head : Head} {t : Tables} {lentCharges lentCredits : ℕ} → GoodMonth head t lentCharges lentCredits
+    → (length (monthText head t) ≤ 52_793) × (length (monthText head t) ≤ mostBytes)
+good-file-fits good = let short = files.file-short good in (short, omega (arith, short))
+
+-- .. and its statement is that month's: lines where it is accepted, else the line of its refusal
+pub good-file-is-stated : {head : Head} {t : Tables} {lentCharges lentCredits : ℕ} → GoodMonth head t lentCharges lentCredits
+    → ContentsFit monthForm (contentsOf head t) → statementOf (monthText head t) ≡ settledText (monthOf head t)
+good-file-is-stated {head} {t} good fit =
+    stating.short-text (monthText head t) (good-file-fits good .1) ∙ ap foundText (written-then-read (contentsOf head t) fit)

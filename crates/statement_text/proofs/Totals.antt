@@ -13,6 +13,7 @@ use Rattle.lists.specs.Sums.{sumTo, at, when}
 use Rattle.lists.proofs.Sums.{sum-at-most}
 use Rattle.lists.proofs.Entries.{listed-eq}
 use Rattle.answer.specs.declared.Answer.{Answer}
+use Rattle.division.specs.Limits.{potLimit}
 use Rattle.tables.specs.declared.Table.{Table}
 use Rattle.tables.specs.declared.Table.the-variants.{Owners, Units, Accounts}
 use Rattle.tables.specs.Shape.{limit, rows, chargeWidth, creditWidth, wordsOf}
@@ -24,6 +25,7 @@ use Rattle.pool.specs.Network.{networkCharge}
 use Rattle.pool.specs.Services.{unitCredit, creditIn, serviceCharge}
 use Rattle.pool.specs.Filled.{mostCharge}
 use Rattle.services.specs.Settled.{mostCredit}
+use Rattle.firm.specs.Firm.{firmCharge, firmPot}
 use Rattle.settlement.specs.Settled.{laid, answerOf, chargeOf, creditOf, Settled}
 use Rattle.settlement.specs.Columns.{figureAt}
 use Rattle.settlement.specs.Accepted.{IsService, Accepted}
@@ -67,6 +69,10 @@ module _ {m : Input} {lentCharges lentCredits : ℕ} (all : Accepted m lentCharg
       (sum-at-most (unitCount m) (limit Units) mostCredit (creditIn m s) (few Units)
       (λ u b. when-within (eqb (unitService (m .tables .units) u) s) (unitCredit m u) mostCredit (unit-credit-within m lentCharges lentCredits (all .good) u b)))
 
+  firm-total : sumTo (accountCount m) (firmCharge m) ≤ potLimit
+  unfolding firmPot
+  firm-total = all .firm-fine .pot-fits
+
   -- the totals are equal, and below 2^64
   pub totals-equal : allCharges m ≡ allCredits m
   unfolding allCharges allCredits
@@ -80,6 +86,7 @@ module _ {m : Input} {lentCharges lentCredits : ℕ} (all : Accepted m lentCharg
         sum-at-most (accountCount m) (limit Accounts) mostCharge (networkCharge m) (few Accounts) (λ a b. charge-within m lentCharges lentCredits (all .good) a),
         service-total blackStart (inl refl),
         service-total reactive (inr refl),
+        firm-total,
       )
 
 -- a month that was settled into outputs of full size

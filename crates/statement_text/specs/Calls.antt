@@ -9,7 +9,7 @@ use Rattle.statement_text.specs.Statement.{mostBytes, mostShown, stateme
 unfoldable pub use Rattle.statement_lines.specs.Calls.{fitting}
 pub use Rattle.statement_lines.specs.Calls.{Shows}
 
--- What `state_file` answers, and every lent byte afterwards. "The statement program reads at most 32,768 bytes .. (more is 1,0,0)": the
+-- What `state_file` answers, and every lent byte afterwards. "The statement program now reads 65,536 bytes", "more is 1,0,0": the
 -- bytes that are held have room for one more, by which a longer file is seen, and the lent ones for every statement. So there is no
 -- ROOM here: the statement of the first `count` bytes stands first, whole, and behind it what was there.
 pub record FileStated (held : List ℕ) (count : ℕ) (lent after : List ℕ) (r : ℕ) : Type 0 where

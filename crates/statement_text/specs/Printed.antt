@@ -16,7 +16,8 @@ use Rattle.settlement.specs.Columns.{figureAt}
 use Rattle.statement_lines.specs.Lines.{rowsWith, linesText}
 use Rattle.statement_text.specs.Statement.{allCharges, allCredits}
 
--- "account and three charges; owner and four credits; all charges and all credits": the rows of both kinds, and the numbers of `total`
+-- "account and three charges; owner and four credits; all charges and all credits", each row with "a last figure": the rows of both
+-- kinds, and the numbers of `total`
 pub record Lines : Type 0 where
   pub charges : Rows
   pub credits : Rows

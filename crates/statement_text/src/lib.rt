@@ -15,13 +15,13 @@ use tables::TABLES;
 use tables::Table;
 
 // The most bytes that a month file may have.
-pub const MOST_BYTES: usize = 32_768;
+pub const MOST_BYTES: usize = 65_536;
 
 // The bytes to ask for: one more, so that a file with too many is seen to have them.
 pub const MOST_ASKED: usize = MOST_BYTES + 1;
 
 // The most bytes that a statement has.
-pub const MOST_SHOWN: usize = 10_128;
+pub const MOST_SHOWN: usize = 12_144;
 
 // The statement of a month, from its head and tables: it is settled in working memory, and its lines are written, or the line of its
 // refusal.
@@ -54,6 +54,7 @@ pub fn statement(text: &[u8], out: &mut [u8]) -> Shown
     let mut accounts = [0u64; tables::MOST_ACCOUNTS * tables::ACCOUNT_WIDTH];
     let mut loads = [0u64; tables::MOST_LOADS * tables::LOAD_WIDTH];
     let mut reservations = [0u64; tables::MOST_RESERVATIONS * tables::RESERVATION_WIDTH];
+    let mut firm = [0u64; tables::MOST_FIRM * tables::FIRM_WIDTH];
     let held = fileread::read(
         text,
         &mut zones,
@@ -62,6 +63,7 @@ pub fn statement(text: &[u8], out: &mut [u8]) -> Shown
         &mut accounts,
         &mut loads,
         &mut reservations,
+        &mut firm,
     );
     let answer = held.answer;
     if answer.number != ACCEPTED {
@@ -75,6 +77,7 @@ pub fn statement(text: &[u8], out: &mut [u8]) -> Shown
     let accountwords = counts[3] * tables::ACCOUNT_WIDTH;
     let loadwords = counts[4] * tables::LOAD_WIDTH;
     let reservationwords = counts[5] * tables::RESERVATION_WIDTH;
+    let firmwords = counts[6] * tables::FIRM_WIDTH;
     state_month(
         head,
         [
@@ -84,6 +87,7 @@ pub fn statement(text: &[u8], out: &mut [u8]) -> Shown
             &accounts[..accountwords],
             &loads[..loadwords],
             &reservations[..reservationwords],
+            &firm[..firmwords],
         ],
         out,
     )

@@ -3,19 +3,17 @@
 use mathlib.Core.Path.{_≡_, refl, sym, ap, subst, _∙_}
 use mathlib.Core.Logic.{⊎-elim, _≢_}
 use mathlib.Core.Bool.{Bool, true, false}
-use Prim.Native.Nat.{ℕ, zero, suc, _-_, _≤_, _<_}
-use native.Mathlib.Nat.{le-of-suc-le}
-use native.Mathlib.Omega.{arith}
+use Prim.Native.Nat.{ℕ, zero, suc, _≤_, _<_}
+use native.Mathlib.Nat.{le-refl, le-antisymm, le-of-suc-le, not-suc-le-zero}
 use Rattle.lists.proofs.Sums.{last-or-below}
 use Rattle.lists.proofs.Ranks.{lt-or-le}
 use Rattle.answer.specs.declared.Answer.{Answer}
 use Rattle.answer.specs.Turns.{look, accepted, refuse, _then_, refusal, turns}
 use Rattle.answer.proofs.Turns.{zero-or-not, then-first, then-second, refuse-none, refuse-some, refuse-number, turns-all}
 use Rattle.tables.specs.declared.Table.{Table}
-use Rattle.tables.specs.declared.Table.the-variants.{Zones, Owners, Units, Accounts, Loads, Reservations}
-use Rattle.tables.specs.Shape.{number, tableCount, tableAt, placeOf}
+use Rattle.tables.specs.Shape.{tableCount, tableAt, placeOf}
 use Rattle.tables.specs.Counts.{tablesInTurn}
-use Rattle.tables.proofs.Places.{table-placed, place-below}
+use Rattle.tables.proofs.Places.{table-placed, place-below, place-at}
 use Rattle.tables.proofs.Tests.{Tests, breaks}
 
 pub data Stage (Good : Type 0) (Bad : Answer → Type 0) (a : Answer) : Type 0 where
@@ -47,83 +45,50 @@ pub look-stage : {G : Type 0} {B : Answer → Type 0} {fault : Bool} (n table ro
 look-stage {fault = true} n table row d test bad = refuse-stage n table row (λ z. absurd (d z)) (λ e. bad (breaks test refl))
 look-stage {fault = false} n table row d test bad = refuse-stage 0 table row (λ z. test .holds refl) (λ e. absurd (e refl))
 
--- a table is known by its number
-at-number : (table : Table) → tableAt (number table - 1) ≡ table
-at-number Zones = refl
-at-number Owners = refl
-at-number Units = refl
-at-number Accounts = refl
-at-number Loads = refl
-at-number Reservations = refl
-
-pub same-number : (a b : Table) → number a ≡ number b → a ≡ b
-same-number a b e = sym (at-number a) ∙ ap (λ n. tableAt (n - 1)) e ∙ at-number b
+-- a table is known by its place
+pub same-place : (a b : Table) → placeOf a ≡ placeOf b → a ≡ b
+same-place a b e = sym (table-placed a) ∙ ap tableAt e ∙ table-placed b
 
 -- there is one first table that breaks a rule
-pub first-broken : (G : Table → Type 0) (x y : Table) → ((earlier : Table) → number earlier < number x → G earlier) → ¬ G x
-    → ((earlier : Table) → number earlier < number y → G earlier) → ¬ G y → number x ≡ number y
+pub first-broken : (G : Table → Type 0) (x y : Table) → ((earlier : Table) → placeOf earlier < placeOf x → G earlier) → ¬ G x
+    → ((earlier : Table) → placeOf earlier < placeOf y → G earlier) → ¬ G y → x ≡ y
 first-broken G x y before bad before′ bad′ =
     ⊎-elim
-    (λ (l : number x < number y). absurd (bad (before′ x l)))
-    (λ (m : number y ≤ number x).
+    (λ (l : placeOf x < placeOf y). absurd (bad (before′ x l)))
+    (λ (m : placeOf y ≤ placeOf x).
     ⊎-elim
-    (λ (l : number y < number x). absurd (bad′ (before y l)))
-    (λ (n : number x ≤ number y). (let e : number x ≡ number y = omega arith in e))
-    (lt-or-le (number y) (number x)))
-    (lt-or-le (number x) (number y))
-
-from-one : (table : Table) → 0 < number table
-from-one Zones = omega arith
-from-one Owners = omega arith
-from-one Units = omega arith
-from-one Accounts = omega arith
-from-one Loads = omega arith
-from-one Reservations = omega arith
-
-number-at : (k : ℕ) → k < tableCount → number (tableAt k) ≡ suc k
-number-at zero h = refl
-number-at (suc zero) h = refl
-number-at (suc (suc zero)) h = refl
-number-at (suc (suc (suc zero))) h = refl
-number-at (suc (suc (suc (suc zero)))) h = refl
-number-at (suc (suc (suc (suc (suc zero))))) h = refl
-number-at (suc (suc (suc (suc (suc (suc k)))))) h = absurd (omega (arith, h))
-
-to-six : (table : Table) → number table < 7
-to-six Zones = omega arith
-to-six Owners = omega arith
-to-six Units = omega arith
-to-six Accounts = omega arith
-to-six Loads = omega arith
-to-six Reservations = omega arith
+    (λ (l : placeOf y < placeOf x). absurd (bad′ (before y l)))
+    (λ (n : placeOf x ≤ placeOf y). same-place x y (le-antisymm n m))
+    (lt-or-le (placeOf y) (placeOf x)))
+    (lt-or-le (placeOf x) (placeOf y))
 
 abbrev Upto : (Table → Type 0) → ℕ → Type 0
-Upto G k = (earlier : Table) → number earlier < k → G earlier
+Upto G k = (earlier : Table) → placeOf earlier < k → G earlier
 
--- tables 1 to 6 in turn, where each stage may rest on all the tables before
-module _ (G : Table → Type 0) (B : Answer → Type 0) (f : Table → Answer) (stage : (table : Table) → Upto G (number table) → Stage (G table) B (f table)) where
-  one-more : (table : Table) → Upto G (number table) → G table → Upto G (suc (number table))
+-- the tables in turn, where each stage may rest on all the tables before
+module _ (G : Table → Type 0) (B : Answer → Type 0) (f : Table → Answer) (stage : (table : Table) → Upto G (placeOf table) → Stage (G table) B (f table)) where
+  one-more : (table : Table) → Upto G (placeOf table) → G table → Upto G (suc (placeOf table))
   one-more table before here earlier h =
       ⊎-elim
-      (λ (e : number earlier ≡ number table). subst G (sym (same-number earlier table e)) here)
-      (λ (l : number earlier < number table). before earlier l)
-      (last-or-below (number table) (number earlier) h)
+      (λ (e : placeOf earlier ≡ placeOf table). subst G (sym (same-place earlier table e)) here)
+      (λ (l : placeOf earlier < placeOf table). before earlier l)
+      (last-or-below (placeOf table) (placeOf earlier) h)
 
-  next : (table : Table) → Upto G (number table) → Stage (Upto G (suc (number table))) B (f table)
+  next : (table : Table) → Upto G (placeOf table) → Stage (Upto G (suc (placeOf table))) B (f table)
   next table before = passed-on (one-more table before) (stage table before)
 
   -- the first k tables
-  first-tables : (k : ℕ) → k ≤ tableCount → Stage (Upto G (suc k)) B (turns (λ i. f (tableAt i)) k)
+  first-tables : (k : ℕ) → k ≤ tableCount → Stage (Upto G k) B (turns (λ i. f (tableAt i)) k)
   unfolding turns
-  first-tables zero h = passed refl (λ earlier l. absurd (omega (arith, l, from-one earlier)))
+  first-tables zero h = passed refl (λ earlier l. absurd (not-suc-le-zero l))
   first-tables (suc k) h =
-      let here : number (tableAt k) ≡ suc k = number-at k h in
+      let here : placeOf (tableAt k) ≡ k = place-at k h in
       then-stage (first-tables k (le-of-suc-le h)) (λ before.
       subst (λ n. Stage (Upto G (suc n)) B (f (tableAt k))) here (next (tableAt k) (subst (Upto G) (sym here) before)))
 
   pub in-turn-stage : Stage ((table : Table) → G table) B (tablesInTurn f)
   unfolding tablesInTurn
-  in-turn-stage = passed-on (λ all table. all table (to-six table)) (first-tables tableCount (omega arith))
+  in-turn-stage = passed-on (λ all table. all table (place-below table)) (first-tables tableCount (le-refl tableCount))
 
 -- where nothing is refused in turn, no table is
 pub in-turn-all : (f : Table → Answer) → tablesInTurn f .number ≡ 0 → (table : Table) → f table .number ≡ 0

@@ -4,7 +4,7 @@ use Prim.Native.Nat.{ℕ, _+_, _*_}
 use mathlib.Core.List.{List}
 use Rattle.lists.specs.Sums.{at}
 use Rattle.tables.specs.declared.Table.{Table}
-use Rattle.tables.specs.declared.Table.the-variants.{Zones, Owners, Units, Accounts, Loads, Reservations}
+use Rattle.tables.specs.declared.Table.the-variants.{Zones, Owners, Units, Accounts, Loads, Reservations, Firm}
 use Rattle.tables.specs.Shape.{width}
 
 -- the entry of row i in a column
@@ -76,3 +76,19 @@ reservationReserved reservations i = entry Reservations 1 reservations i
 
 abbrev pub reservationCurtailed : List ℕ → ℕ → ℕ
 reservationCurtailed reservations i = entry Reservations 2 reservations i
+
+-- table 10: an account, a term, MISO delivery, a first day, a capacity
+abbrev pub firmAccount : List ℕ → ℕ → ℕ
+firmAccount firm i = entry Firm 0 firm i
+
+abbrev pub firmTerm : List ℕ → ℕ → ℕ
+firmTerm firm i = entry Firm 1 firm i
+
+abbrev pub firmMiso : List ℕ → ℕ → ℕ
+firmMiso firm i = entry Firm 2 firm i
+
+abbrev pub firmDay : List ℕ → ℕ → ℕ
+firmDay firm i = entry Firm 3 firm i
+
+abbrev pub firmCapacity : List ℕ → ℕ → ℕ
+firmCapacity firm i = entry Firm 4 firm i

@@ -11,7 +11,7 @@ use Rattle.answer.specs.Turns.{look, refuse, turns}
 use Rattle.tables.specs.declared.Table.{Table}
 use Rattle.tables.specs.Shape.{tableCount, tableAt, number, width, limit, rows, Tables, wordsOf}
 
--- "tables 1 to 6", in turn
+-- "tables 1 to 6", and table 10 "after table 6", in turn
 unfoldable pub tablesInTurn : (Table → Answer) → Answer
 tablesInTurn f = turns (λ k. f (tableAt k)) tableCount
 

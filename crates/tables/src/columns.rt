@@ -46,6 +46,16 @@ pub const RESERVATION_RESERVED: usize = 1;
 
 pub const RESERVATION_CURTAILED: usize = 2;
 
+pub const FIRM_ACCOUNT: usize = 0;
+
+pub const FIRM_TERM: usize = 1;
+
+pub const FIRM_MISO: usize = 2;
+
+pub const FIRM_DAY: usize = 3;
+
+pub const FIRM_CAPACITY: usize = 4;
+
 // The entry of row `i` in a column. Words behind the last whole row are no entries.
 pub fn entry(table: Table, column: usize, words: &[u64], i: usize) -> u64
     requires { ⌜ (i < rows table (now words)) × (column < width table) ⌝ }

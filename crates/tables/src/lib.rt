@@ -1,4 +1,4 @@
-// The shape of a month's head and of its tables 1 to 6: the number of each table, how many entries its rows have, by how many of
+// The shape of a month's head and of its tables 1 to 6 and 10: the number of each table, how many entries its rows have, by how many of
 // them they ascend, how many rows it may have, and the limits of what stands in them. A table is named by a `Table`; its rows lie
 // end to end in one slice of words, and the tables that are only read go as one array of such slices, in the order of their numbers.
 // `columns` has each entry of a row by name, and `counts` judges whether tables are whole rows and no more than they may have.
@@ -10,17 +10,25 @@ ghost use Rattle.tables.specs.Shape.{shapeOf, tableAt, placeOf, number, 
 pub mod columns;
 pub mod counts;
 
-// The head of a month, three plain numbers: which month, how many days it has, the non-zone rate.
+// The head of a month, plain numbers: which month, how many days it has, the non-zone rate, the rates of firm service by the day, the
+// week and the month, and the weekday of day 1, from Monday on.
 pub struct Head {
     pub month: u64,
     pub days: u64,
     pub nonzone: u64,
+    pub daily: u64,
+    pub weekly: u64,
+    pub monthly: u64,
+    pub weekday: u64,
 }
 
-// How many tables there are.
-pub const TABLES: usize = 6;
+// How many numbers a head has.
+pub const HEADS: usize = 7;
 
-// One of tables 1 to 6.
+// How many tables there are.
+pub const TABLES: usize = 7;
+
+// One of tables 1 to 6, or table 10.
 pub enum Table {
     Zones,
     Owners,
@@ -28,6 +36,7 @@ pub enum Table {
     Accounts,
     Loads,
     Reservations,
+    Firm,
 }
 
 // How many entries a row of each table has.
@@ -43,6 +52,8 @@ pub const LOAD_WIDTH: usize = 3;
 
 pub const RESERVATION_WIDTH: usize = 3;
 
+pub const FIRM_WIDTH: usize = 5;
+
 // How many rows each table may have.
 pub const MOST_ZONES: usize = 16;
 
@@ -56,10 +67,12 @@ pub const MOST_LOADS: usize = 992;
 
 pub const MOST_RESERVATIONS: usize = 32;
 
-// How many figures an account's row of charges and an owner's row of credits have.
-pub const CHARGE_WIDTH: usize = 3;
+pub const MOST_FIRM: usize = 992;
 
-pub const CREDIT_WIDTH: usize = 4;
+// How many figures an account's row of charges and an owner's row of credits have.
+pub const CHARGE_WIDTH: usize = 4;
+
+pub const CREDIT_WIDTH: usize = 5;
 
 // The highest number that names a zone, an owner, a unit, an account and a customer; each starts at 1.
 pub const LAST_ZONE: u64 = 999;
@@ -72,7 +85,7 @@ pub const LAST_ACCOUNT: u64 = 9_999;
 
 pub const LAST_CUSTOMER: u64 = 1_000_000_000;
 
-// The most that a rate, an annual requirement, a reserve credit, a day's peak load and a month's energy may be.
+// The most that a rate, an annual requirement, a reserve credit, a day's peak load, a month's energy and a firm capacity may be.
 pub const MOST_RATE: u64 = 100_000_000;
 
 pub const MOST_ANNUAL: u64 = 1_000_000_000_000;
@@ -83,10 +96,25 @@ pub const MOST_LOAD: u64 = 1_000_000;
 
 pub const MOST_ENERGY: u64 = 1_000_000_000;
 
+pub const MOST_CAPACITY: u64 = 1_000_000;
+
 // The two services.
 pub const BLACK_START: u64 = 1;
 
 pub const REACTIVE: u64 = 2;
+
+// The terms of a firm reservation.
+pub const DAILY: u64 = 1;
+
+pub const WEEKLY: u64 = 2;
+
+pub const MONTHLY: u64 = 3;
+
+// The mark of MISO delivery; 0 stands for any other.
+pub const MISO: u64 = 1;
+
+// The last weekday, Sunday; Monday is 1.
+pub const LAST_WEEKDAY: u64 = 7;
 
 // The table at a place, in the order of their numbers; a place behind them is taken for the last.
 pub fn table_at(place: usize) -> Table
@@ -98,7 +126,8 @@ pub fn table_at(place: usize) -> Table
         2 => Table::Units,
         3 => Table::Accounts,
         4 => Table::Loads,
-        _ => Table::Reservations,
+        5 => Table::Reservations,
+        _ => Table::Firm,
     }
 }
 
@@ -158,6 +187,13 @@ pub fn shape_of(table: Table) -> Shape
             width: RESERVATION_WIDTH,
             keys: 1,
             limit: MOST_RESERVATIONS,
+        },
+        Table::Firm => Shape {
+            place: 6,
+            number: answer::FIRM,
+            width: FIRM_WIDTH,
+            keys: 4,
+            limit: MOST_FIRM,
         },
     }
 }

@@ -1,11 +1,11 @@
-// The words of a month in one block, in parts by their numbers in an answer: 0 the head, 1 to 6 the tables, 7 and 8 the outputs. In
-// front stands how many words each part has. A word that a part can't have is not stored.
+// The words of a month in one block, in parts by their numbers in an answer: 0 the head, 1 to 6 and 10 the tables, 7 and 8 the outputs;
+// 9 is none. In front stands how many words each part has. A word that a part can't have is not stored.
 ghost use Prim.Native.Nat.{_*_, _≤_};
 
-const PARTS: usize = 9;
+const PARTS: usize = 11;
 
-// The most words of a part: a load more than there may be.
-const ROOM: usize = 2_979;
+// The most words of a part: a firm reservation more than there may be.
+const ROOM: usize = 4_965;
 
 pub(crate) const WORDS: usize = PARTS + PARTS * ROOM;
 
@@ -47,7 +47,7 @@ pub(crate) fn set_zeros(words: &mut [u64], part: usize, count: usize) {
 
 // The place of a row's first word in a table, which is named by its number.
 fn row_place(table: usize, row: usize) -> usize
-    ensures { λ r. ⌜ r ≤ 6 * 2979 ⌝ }
+    ensures { λ r. ⌜ r ≤ 6 * 4965 ⌝ }
 {
     if ROOM <= row {
         return ROOM;
@@ -58,7 +58,8 @@ fn row_place(table: usize, row: usize) -> usize
         3 => row * tables::UNIT_WIDTH,
         4 => row * tables::ACCOUNT_WIDTH,
         5 => row * tables::LOAD_WIDTH,
-        _ => row * tables::RESERVATION_WIDTH,
+        6 => row * tables::RESERVATION_WIDTH,
+        _ => row * tables::FIRM_WIDTH,
     }
 }
 

@@ -1,6 +1,6 @@
 // What a line changes, part by part, each behind a semicolon. `3=1,2,3` gives table 3 these words, `3@1,2=5` gives the entry of its
 // row 1 in column 2, both from 0, and `3*6` makes it 6 words, all 0. The parts have the numbers of an answer's tables, 0 for the head,
-// 7 and 8 for the outputs.
+// which is one row, 7 and 8 for the outputs.
 ghost use Prim.Native.Nat.{_≤_, _<_};
 ghost use lib.ListN.{length};
 use crate::block;

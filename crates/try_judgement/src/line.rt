@@ -2,6 +2,7 @@
 use crate::block;
 use answer::Answer;
 use judgement::Judged;
+use tables::HEADS;
 use tables::Head;
 use tables::TABLES;
 
@@ -44,19 +45,24 @@ fn tables_of<'a>(words: &'a [u64]) -> [&'a [u64]; TABLES] {
         block::part(words, 4),
         block::part(words, 5),
         block::part(words, 6),
+        block::part(words, 10),
     ]
 }
 
 // The line of the month whose words stand in a block; no line where its head is not whole.
 pub(crate) fn month_line(name: &[u8], words: &[u64]) {
     let numbers = block::part(words, 0);
-    if numbers.len() < 3 {
+    if numbers.len() < HEADS {
         return;
     }
     let head = Head {
         month: numbers[0],
         days: numbers[1],
         nonzone: numbers[2],
+        daily: numbers[3],
+        weekly: numbers[4],
+        monthly: numbers[5],
+        weekday: numbers[6],
     };
     let charges = block::part(words, 7).len();
     let credits = block::part(words, 8).len();

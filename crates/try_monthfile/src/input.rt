@@ -41,8 +41,11 @@ fn take(cases: &[u8], at: usize, key: &[u8], count: usize, numbers: &mut [u64]) 
     next
 }
 
-// The last six of a case's numbers, one for each table.
-fn sizes(numbers: [u64; 8]) -> [usize; TABLES] {
+// How many numbers a case begins with: one for each table, and two more.
+const NUMBERS: usize = TABLES + 2;
+
+// The last seven of a case's numbers, one for each table.
+fn sizes(numbers: [u64; NUMBERS]) -> [usize; TABLES] {
     [
         numbers[2] as usize,
         numbers[3] as usize,
@@ -50,6 +53,7 @@ fn sizes(numbers: [u64; 8]) -> [usize; TABLES] {
         numbers[5] as usize,
         numbers[6] as usize,
         numbers[7] as usize,
+        numbers[8] as usize,
     ]
 }
 
@@ -66,8 +70,8 @@ fn bent(cases: &[u8], name: &[u8], at: usize) -> usize {
 }
 
 fn zeros(cases: &[u8], name: &[u8], at: usize) -> usize {
-    let mut numbers = [0u64; 8];
-    let from = take(cases, at, b"zeros", 8, &mut numbers);
+    let mut numbers = [0u64; NUMBERS];
+    let from = take(cases, at, b"zeros", NUMBERS, &mut numbers);
     if from == 0 {
         return 0;
     }
@@ -77,8 +81,8 @@ fn zeros(cases: &[u8], name: &[u8], at: usize) -> usize {
 }
 
 fn lent(cases: &[u8], name: &[u8], at: usize) -> usize {
-    let mut numbers = [0u64; 8];
-    let from = take(cases, at, b"lent", 8, &mut numbers);
+    let mut numbers = [0u64; NUMBERS];
+    let from = take(cases, at, b"lent", NUMBERS, &mut numbers);
     if from == 0 {
         return 0;
     }
@@ -88,8 +92,8 @@ fn lent(cases: &[u8], name: &[u8], at: usize) -> usize {
 }
 
 fn write(cases: &[u8], name: &[u8], at: usize) -> usize {
-    let mut numbers = [0u64; 8];
-    let from = take(cases, at, b"write", 8, &mut numbers);
+    let mut numbers = [0u64; NUMBERS];
+    let from = take(cases, at, b"write", NUMBERS, &mut numbers);
     if from == 0 {
         return 0;
     }

@@ -45,6 +45,8 @@ pub(crate) fn reading(name: &[u8], reading: Reading) {
     answered(name, answer);
     let head = reading.head;
     three(b" head ", head.month, head.days, head.nonzone);
+    three(b",", head.daily, head.weekly, head.monthly);
+    number(b",", head.weekday);
     let counts = reading.counts;
     each(b" rows ", counts);
 }

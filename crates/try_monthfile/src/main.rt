@@ -10,7 +10,7 @@ mod marks;
 mod writes;
 
 fn main() {
-    let mut cases = [0u8; 8_192];
+    let mut cases = [0u8; 16_384];
     let count = io::read_full(libc::STDIN_FILENO, &mut cases);
     case::run();
     input::run(&cases[..count]);

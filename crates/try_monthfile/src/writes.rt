@@ -25,6 +25,10 @@ const HEAD: Head = Head {
     month: 4,
     days: 30,
     nonzone: 0,
+    daily: 0,
+    weekly: 0,
+    monthly: 0,
+    weekday: 1,
 };
 
 // What a write into marked bytes answers, and how many of them it changed.
@@ -39,10 +43,10 @@ fn write_and_show<'a>(name: &[u8], head: Head, tables: [&'a [u64]; TABLES], out:
     show(name, written, out);
 }
 
-// A month that is written into so many lent bytes, 192 at most.
+// A month that is written into so many lent bytes, 256 at most.
 fn write_into<'a>(name: &[u8], head: Head, tables: [&'a [u64]; TABLES], bytes: usize) {
-    let mut out = [marks::BYTE; 192];
-    let size = marks::least(192, bytes);
+    let mut out = [marks::BYTE; 256];
+    let size = marks::least(256, bytes);
     write_and_show(name, head, tables, &mut out[..size]);
 }
 
@@ -60,48 +64,70 @@ fn write_fronts<'a>(words: &'a [u64], sizes: [usize; TABLES], out: &mut [u8]) ->
 
 // The text of tables of so many zeros, by the table's place, up to a place, and a piece from there on, which is read.
 pub(crate) fn read_zeros(name: &[u8], sizes: [usize; TABLES], at: usize, piece: &[u8]) {
-    let mut text = [0u8; 16_384];
-    let start = marks::least(16_000, at);
+    let mut text = [0u8; 32_768];
+    let start = marks::least(32_384, at);
     let size = marks::least(384, piece.len());
-    write_fronts(&[0u64; 2_976], sizes, &mut text);
+    write_fronts(&[0u64; 4_960], sizes, &mut text);
     put_bytes(&piece[..size], &mut text, start);
-    read_into(name, &text[..start + size], FULL, 2_977);
+    read_into(name, &text[..start + size], FULL, 4_961);
 }
 
 // Tables of so many zeros, by the table's place, written into so many lent bytes.
 pub(crate) fn write_zeros(name: &[u8], sizes: [usize; TABLES], bytes: usize) {
-    let mut out = [marks::BYTE; 16_384];
-    let size = marks::least(16_384, bytes);
+    let mut out = [marks::BYTE; 32_768];
+    let size = marks::least(32_768, bytes);
     write_zeros_into(name, sizes, &mut out[..size]);
 }
 
 fn write_zeros_into(name: &[u8], sizes: [usize; TABLES], out: &mut [u8]) {
-    let written = write_fronts(&[0u64; 2_979], sizes, out);
+    let written = write_fronts(&[0u64; 4_965], sizes, out);
     show(name, written, out);
 }
 
 fn room<'a>(case: [&'a [u64]; TABLES]) {
     write_into(b"write case S into no bytes", HEAD, case, 0);
-    write_into(b"write case S into 160 bytes", HEAD, case, 160);
-    write_into(b"write case S into 161 bytes", HEAD, case, 161);
-    write_into(b"write case S into 192 bytes", HEAD, case, 192);
+    write_into(b"write case S into 197 bytes", HEAD, case, 197);
+    write_into(b"write case S into 198 bytes", HEAD, case, 198);
+    write_into(b"write case S into 256 bytes", HEAD, case, 256);
 }
 
-// No range is judged: the head's three numbers are 2^64-1, 56 bytes more than in the month of no rows above.
+// No range is judged: the head's seven numbers are 2^64-1, 132 bytes more than in a month with case S's head and no rows.
 fn large_head<'a>(none: &'a [u64]) {
     let most = 18_446_744_073_709_551_615;
     let head = Head {
         month: most,
         days: most,
         nonzone: most,
+        daily: most,
+        weekly: most,
+        monthly: most,
+        weekday: most,
     };
     let tables = [none; TABLES];
-    write_into(b"write 2^64-1 three times into 87 bytes", head, tables, 87);
-    write_into(b"write 2^64-1 three times into 88 bytes", head, tables, 88);
+    write_into(
+        b"write 2^64-1 seven times into 200 bytes",
+        head,
+        tables,
+        200,
+    );
+    write_into(
+        b"write 2^64-1 seven times into 201 bytes",
+        head,
+        tables,
+        201,
+    );
 }
 
 pub(crate) fn run() {
-    room([&ZONES, &OWNERS, &UNITS, &ACCOUNTS, &LOADS, &RESERVATIONS]);
-    write_zeros(b"write every table full into 13714 bytes", FULL, 13_714);
+    room([
+        &ZONES,
+        &OWNERS,
+        &UNITS,
+        &ACCOUNTS,
+        &LOADS,
+        &RESERVATIONS,
+        &[],
+    ]);
+    write_zeros(b"write every table full into 28631 bytes", FULL, 28_631);
     large_head(&[]);
 }

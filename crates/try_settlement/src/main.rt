@@ -3,8 +3,9 @@
 // with BIG and with BASE, at the first zone and at the last. With two zones the network's divisions are places 0 and 1, that of the
 // border's charges place 2; for black start the splits are places 3 and 5, the shares 4 and 6, the non-zone pot 7; for reactive 8
 // and 10, 9 and 11, and 12. Then zones without requirement: who pays the pots of others, how a month, a reserve credit or the other
-// service decides it, what stays BASE and what becomes BIG. The file `stdin` beside `src/` has the cases, each a line with a name, a
-// month file and an empty line; `stdout` has what must come by the paper, and the gate holds one to the other.
+// service decides it, what stays BASE and what becomes BIG. Then firm service: a week at its bound, its refusals, and its division,
+// which is place 13. The file `stdin` beside `src/` has the cases, each a line with a name, a month file and an empty line; `stdout`
+// has what must come by the paper, and the gate holds one to the other.
 use libc::STDIN_FILENO;
 use libc::STDOUT_FILENO;
 ghost use Prim.Native.Nat.{_+_, _≤_, _<_, min};
@@ -61,7 +62,7 @@ fn show_all(cases: &[u8]) {
 }
 
 fn main() {
-    let mut input = [0u8; 8_192];
+    let mut input = [0u8; 16_384];
     let count = io::read_full(STDIN_FILENO, &mut input);
     show_all(&input[..count]);
 }

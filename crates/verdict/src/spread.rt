@@ -1,7 +1,7 @@
 // Whether amounts that add up to the pot are level: how high each stands over its exact share, from products in two words,
 // and the highest and the lowest of these.
 ghost use mathlib.Core.Path.{_≡_};
-ghost use Prim.Native.Nat.{_+_, _-_, _*_, _≤_, _<_, min, max};
+ghost use Prim.Native.Nat.{_+_, _-_, _*_, _≤_, _<_, min};
 ghost use lib.ListN.{length};
 ghost use Rattle.lists.specs.Sums.{total};
 ghost use Rattle.closeness.specs.Closeness.{level};
@@ -27,24 +27,6 @@ fn product(factor: u64, number: u64) -> Wide
     }
 }
 
-fn smaller(a: u64, b: u64) -> u64
-    ensures { λ r. ⌜ r ≡ min a b ⌝ }
-{
-    if a <= b {
-        return a;
-    }
-    b
-}
-
-fn larger(a: u64, b: u64) -> u64
-    ensures { λ r. ⌜ r ≡ max a b ⌝ }
-{
-    if a <= b {
-        return b;
-    }
-    a
-}
-
 // A number less another, 0 where the other is larger, and the cap where the difference is above it.
 fn excess(number: Wide, other: Wide, cap: u64) -> u64
     requires { ⌜ (number .low < 524288) × (other .low < 524288) × (cap ≤ 2 * weightLimit) ⌝ }
@@ -62,7 +44,7 @@ fn excess(number: Wide, other: Wide, cap: u64) -> u64
     if upper < lower {
         return 0;
     }
-    smaller(upper - lower, cap)
+    lists::smaller(upper - lower, cap)
 }
 
 // Whether no amount stands more than a cent higher over its exact share than another, for amounts that add up to the pot.
@@ -78,8 +60,8 @@ pub fn is_level(pot: u64, weights: &[u64], sum: u64, amounts: &[u64]) -> bool
         let above = product(sum, amounts[i] + 1);
         let exact = product(weights[i], pot);
         let height = excess(above, exact, 2 * sum);
-        highest = larger(highest, height);
-        lowest = smaller(lowest, height);
+        highest = lists::larger(highest, height);
+        lowest = lists::smaller(lowest, height);
         i += 1;
     }
     highest <= lowest + sum

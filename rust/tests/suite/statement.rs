@@ -4,10 +4,10 @@ use noketualo::{statement, statement_into, Refusal, MOST_FILE_BYTES};
 use std::fs;
 use std::path::{Path, PathBuf};
 
-const CASE_S: &[u8] = b"month=4\ndays=30\nnonzone=0\nzone=1,365000\nowner=1,1,200\nowner=2,1,100\n\
-    unit=1,2,1,1,12000,0\naccount=1,70,1\naccount=2,71,0\nload=1,1,10\nload=1,2,10\nptp=2,480,0\nend=9\n";
-const CASE_S_STATEMENT: &[u8] = b"charge=1,2000,500,0\ncharge=2,0,500,0\ncredit=1,1333,0,0,0\n\
-    credit=2,667,0,1000,0\ntotal=3000,3000\n";
+const CASE_S: &[u8] = b"month=4\ndays=30\nnonzone=0\ndaily=0\nweekly=0\nmonthly=0\nweekday=1\n\
+    zone=1,365000\nowner=1,1,200\nowner=2,1,100\nunit=1,2,1,1,12000,0\naccount=1,70,1\naccount=2,71,0\nload=1,1,10\nload=1,2,10\nptp=2,480,0\nend=9\n";
+const CASE_S_STATEMENT: &[u8] = b"charge=1,2000,500,0,0\ncharge=2,0,500,0,0\ncredit=1,1333,0,0,0,0\n\
+    credit=2,667,0,1000,0,0\ntotal=3000,3000\n";
 
 #[test]
 fn case_s() {
@@ -48,7 +48,7 @@ fn a_file_too_long_is_refused_whatever_it_holds() {
     assert_eq!(statement(&long), b"refuse=1,0,0\n");
     // One byte less: the month is whole, and what follows its end is named by its offset.
     long.pop();
-    assert_eq!(statement(&long), b"refuse=10,0,161\n");
+    assert_eq!(statement(&long), b"refuse=10,0,198\n");
     assert_eq!(statement(b""), b"refuse=10,0,0\n");
 }
 

@@ -1,10 +1,10 @@
 //! Times a month from its file to its statement, by the archive and by the second settlement, on
-//! the same files in the same run; and how both grow with loads, accounts and zones.
+//! the same files in the same run; and how both grow with loads, accounts, zones and firm rows.
 
 use second::archive::{statement_into, Answer};
-use second::make::{Made, Numbers, ACCOUNTS, LOADS, OWNERS, RESERVATIONS, UNITS, ZONES};
+use second::make::{Made, Numbers};
 use second::statement::statement;
-use second::tables::Head;
+use second::tables::{Head, ACCOUNTS, FIRM, LOADS, OWNERS, RESERVATIONS, UNITS, ZONES};
 use std::hint::black_box;
 use std::time::{Duration, Instant};
 
@@ -20,12 +20,21 @@ struct Size {
     accounts: u64,
     /// Of each account.
     load_days: u64,
+    /// Of each account.
+    firm_days: u64,
 }
 
 const FULL: Size = Size {
     zones: 16,
     accounts: 32,
     load_days: 31,
+    firm_days: 0,
+};
+
+/// The same month with as many firm rows as there may be.
+const FULL_WITH_FIRM: Size = Size {
+    firm_days: 31,
+    ..FULL
 };
 
 fn main() {
@@ -34,6 +43,7 @@ fn main() {
     }
     println!("microseconds from file to statement, fastest of {ROUNDS} rounds");
     print_growth("full size", &[FULL], |_| 1);
+    print_growth("and 992 firm rows", &[FULL_WITH_FIRM], |_| 1);
     let loads = [1, 2, 4, 8, 16, 31].map(|load_days| Size { load_days, ..FULL });
     print_growth("loads", &loads, |size| size.accounts * size.load_days);
     let accounts = [1, 2, 4, 8, 16, 32].map(|accounts| Size { accounts, ..FULL });
@@ -46,16 +56,19 @@ fn main() {
     print_growth("accounts without loads", &idle, |size| size.accounts);
     let zones = [1, 2, 4, 8, 16].map(|zones| Size { zones, ..FULL });
     print_growth("zones", &zones, |size| size.zones);
-    print_reading();
+    let firm = [1, 2, 4, 8, 16, 31].map(|firm_days| Size { firm_days, ..FULL });
+    print_growth("firm rows", &firm, |size| size.accounts * size.firm_days);
+    println!();
+    print_reading(&FULL);
+    print_reading(&FULL_WITH_FIRM);
 }
 
 /// A month 13 is refused as soon as the file is read, so that hardly more than reading is timed.
-fn print_reading() {
-    let mut made = month(&FULL);
+fn print_reading(size: &Size) {
+    let mut made = month(size);
     made.head.month = 13;
     let text = made.text();
     let (archive, second) = microseconds(&text);
-    println!();
     println!(
         "reading alone, {} bytes: archive {archive:.1}, second {second:.1}, ratio {:.2}",
         text.len(),
@@ -100,6 +113,10 @@ fn month(size: &Size) -> Made {
             month: 12,
             days: 31,
             non_zone_rate: numbers.between(1_000_000, 1_500_000),
+            daily_rate: 23_015,
+            weekly_rate: 115_075,
+            monthly_rate: 498_658,
+            weekday: 4,
         },
         ..Made::default()
     };
@@ -132,6 +149,12 @@ fn month(size: &Size) -> Made {
         }
         let reserved = numbers.between(100_000, 999_999);
         made.rows[RESERVATIONS].push([number, reserved, reserved / 10, 0, 0, 0]);
+    }
+    for account in 9_001..=9_000 + size.accounts {
+        for day in 1..=size.firm_days {
+            let capacity = numbers.between(1_000, 9_999);
+            made.rows[FIRM].push([account, 1, 0, day, capacity, 0]);
+        }
     }
     made
 }

@@ -1,18 +1,17 @@
 //! Months that are aimed at one division: at its limits and one past them, at a pot with nothing to
-//! divide it by, and at zones without requirement for a service.
+//! divide it by, at zones without requirement for a service, and at weeks near their bounds.
 
 use super::good::{good, Sizes};
 use super::numbers::Numbers;
-use super::{
-    annual_of_nothing, row, Made, Row, ACCOUNTS, LOADS, OWNERS, RESERVATIONS, UNITS, ZONES,
-};
+use super::{annual_of_nothing, firm, row, Made, Row};
 use crate::divide::{LARGEST_POT, LARGEST_WEIGHT_SUM};
+use crate::tables::{ACCOUNTS, LOADS, OWNERS, RESERVATIONS, UNITS, ZONES};
 
-const POT: u64 = LARGEST_POT as u64;
+pub const POT: u64 = LARGEST_POT as u64;
 const WEIGHTS: u64 = LARGEST_WEIGHT_SUM as u64;
 
 /// What an aim can do with a good month. Each leaves the tables good.
-const AIMS: [fn(&mut Numbers, &mut Made); 15] = [
+const AIMS: [fn(&mut Numbers, &mut Made); 19] = [
     network_pot_at_limit,
     network_weights_at_limit,
     all_weights_at_limit,
@@ -28,6 +27,10 @@ const AIMS: [fn(&mut Numbers, &mut Made); 15] = [
     weights_too_big_for_nothing,
     one_service_only,
     use_alike_on_both_sides,
+    firm::pot_at_limit,
+    firm::all_at_their_highest,
+    firm::weeks_at_their_bounds,
+    firm::no_requirement,
 ];
 
 /// A good month with one aim or more.
@@ -39,6 +42,7 @@ pub fn aimed(numbers: &mut Numbers) -> Made {
         accounts: numbers.count_between(6, 16),
         days_apart: numbers.one_of(&[1, 2, 4, 10]),
         reservations: numbers.count_between(0, 6),
+        firm: numbers.one_of(&[0, 1, 3, 10, 30, 100]),
     };
     let mut made = good(numbers, &sizes);
     for _ in 0..numbers.one_of(&[1, 1, 1, 2, 2, 3]) {
@@ -392,7 +396,7 @@ fn requirements(numbers: &mut Numbers, count: usize, total: u64) -> Vec<u64> {
     numbers.parts(count, total.min(most * count as u64), most)
 }
 
-fn near(numbers: &mut Numbers, limit: u64) -> u64 {
+pub fn near(numbers: &mut Numbers, limit: u64) -> u64 {
     match numbers.below(8) {
         0 => limit - 1,
         1 => limit + numbers.up_to(limit / 10),

@@ -2,20 +2,22 @@
 
 use super::good::{good, Sizes};
 use super::numbers::Numbers;
-use super::{Made, CASE_S};
-use crate::month_file::{write_line, KEYS};
+use super::{Made, Row, CASE_S, FIRM_CASE};
+use crate::month_file::write_line;
 use crate::statement::MOST_BYTES;
-use crate::tables::LIMITS;
+use crate::tables::{FIRM, FORMS, HEAD_KEYS, LOADS};
 
 type Damage = fn(&mut Numbers, &mut Vec<u8>);
 
-const DAMAGES: [Damage; 18] = [
+const DAMAGES: [Damage; 20] = [
     change_byte,
     insert_byte,
     remove_byte,
     double_line,
     drop_line,
     swap_lines,
+    swap_lines_of_two_keys,
+    swap_lines_of_two_keys,
     move_line,
     truncate,
     drop_last_line_feed,
@@ -36,7 +38,8 @@ pub fn damaged(numbers: &mut Numbers) -> Vec<u8> {
         0 => too_long(numbers),
         1..=4 => full_table(numbers),
         5 => good(numbers, &Sizes::FULL).text(),
-        6..=9 => CASE_S.to_vec(),
+        6..=7 => CASE_S.to_vec(),
+        8..=9 => FIRM_CASE.to_vec(),
         10..=24 => {
             let sizes = Sizes::up_to(numbers, 2, 3, 3, 3);
             good(numbers, &sizes).text()
@@ -68,10 +71,13 @@ fn too_long(numbers: &mut Numbers) -> Vec<u8> {
         // A good file for a reader, with wider numbers than a month has.
         1 => {
             let mut missing = length.saturating_sub(text.len());
-            for load in made.rows[4].iter_mut().rev() {
-                while missing > 0 && load[2] < 1_000_000_000_000_000_000 {
-                    load[2] = (10 * load[2]).max(10);
-                    missing -= 1;
+            for table in [FIRM, LOADS] {
+                let rows = made.rows[table].iter_mut().rev();
+                for number in rows.flat_map(|row| row[..FORMS[table].width].iter_mut().rev()) {
+                    while missing > 0 && *number < 1_000_000_000_000_000_000 {
+                        *number = (10 * *number).max(10);
+                        missing -= 1;
+                    }
                 }
             }
             text = made.text();
@@ -92,12 +98,16 @@ fn too_long(numbers: &mut Numbers) -> Vec<u8> {
 fn full_table(numbers: &mut Numbers) -> Vec<u8> {
     let sizes = Sizes::up_to(numbers, 2, 3, 3, 3);
     let mut made: Made = good(numbers, &sizes);
-    // The table of loads is long and slow to write, and in no way different.
-    let table = numbers.one_of(&[0, 0, 1, 1, 2, 2, 3, 3, 5, 5, 4]);
+    // A table of many rows is slow to write, and in no way different.
+    let tables = 0..FORMS.len();
+    let often = |&table: &usize| FORMS[table].limit < 100;
+    let tables: Vec<usize> = tables.clone().chain(tables.filter(often)).collect();
+    let table = numbers.one_of(&tables);
+    let limit = FORMS[table].limit;
     let beyond = numbers.one_of(&[0, 1, 1, 1, 1, 2]);
-    while made.rows[table].len() < LIMITS[table] + beyond {
+    while made.rows[table].len() < limit + beyond {
         // Reading judges no range, so any rows fill the table.
-        let row = [0; 6].map(|_: u64| numbers.below(100));
+        let row = Row::default().map(|_| numbers.below(100));
         made.rows[table].push(row);
     }
     let mut text = made.text();
@@ -105,7 +115,7 @@ fn full_table(numbers: &mut Numbers) -> Vec<u8> {
         // Spoils the row beyond the limit, or one around it.
         let lines = lines_of(&text);
         let earlier: usize = made.rows[..table].iter().map(Vec::len).sum();
-        let line = 3 + earlier + LIMITS[table] + numbers.one_of(&[0, 0, 0, 1]);
+        let line = HEAD_KEYS.len() + earlier + limit + numbers.one_of(&[0, 0, 0, 1]);
         let (start, end) = lines[line.min(lines.len() - 1)];
         let mut spoilt = text[start..end].to_vec();
         let damages: [Damage; 4] = [change_byte, insert_byte, remove_byte, put_before_number];
@@ -156,7 +166,23 @@ fn swap_lines(numbers: &mut Numbers, text: &mut Vec<u8>) {
         true => first + 1,
         false => numbers.somewhere(first + 1, lines.len() - 1),
     };
-    let ((a, b), (c, d)) = (lines[first], lines[second]);
+    swap(text, lines[first], lines[second]);
+}
+
+/// The last line of a key and the first of the next: head lines mixed, or a table out of its turn.
+fn swap_lines_of_two_keys(numbers: &mut Numbers, text: &mut Vec<u8>) {
+    let lines = lines_of(text);
+    let neighbours = lines.windows(2);
+    let neighbours: Vec<&[(usize, usize)]> = neighbours
+        .filter(|pair| key_of(text, pair[0]) != key_of(text, pair[1]))
+        .collect();
+    if !neighbours.is_empty() {
+        let pair = numbers.one_of(&neighbours);
+        swap(text, pair[0], pair[1]);
+    }
+}
+
+fn swap(text: &mut Vec<u8>, (a, b): (usize, usize), (c, d): (usize, usize)) {
     let swapped = [
         &text[..a],
         &text[c..d],
@@ -239,13 +265,21 @@ fn wrong_end(numbers: &mut Numbers, text: &mut Vec<u8>) {
         .ok()
         .and_then(|digits| digits.parse().ok())
         .unwrap_or(0);
-    let wrong = match numbers.below(6) {
+    let wrong = match numbers.below(8) {
         0 => count.wrapping_add(1).to_string(),
         1 => count.wrapping_sub(1).to_string(),
         2 => (u128::from(count) + (1 << 64)).to_string(),
         3 => count.wrapping_add(1 << 32).to_string(),
         4 => format!("{count},{count}"),
-        _ => numbers.up_to(20).to_string(),
+        5 => numbers.up_to(20).to_string(),
+        // Without a table's rows.
+        _ => {
+            let line = a_line_of_a_key(numbers, text);
+            let key = line.map(|line| key_of(text, line));
+            let lines = lines_of(text).into_iter();
+            let rows = lines.filter(|&line| Some(key_of(text, line)) == key);
+            count.wrapping_sub(rows.count() as u64).to_string()
+        }
     };
     text.splice(start..end, wrong.into_bytes());
 }
@@ -267,10 +301,9 @@ fn misspell_key(numbers: &mut Numbers, text: &mut Vec<u8>) {
         4 => key.reverse(),
         5 => key.clear(),
         _ => {
-            let keys = ["month", "days", "nonzone", "end"];
-            let position = numbers.position_below(10);
-            let other = *keys.get(position).unwrap_or_else(|| &KEYS[position - 4]);
-            key = other.as_bytes().to_vec();
+            let tables = FORMS.map(|form| form.key);
+            let keys = [&HEAD_KEYS[..], &tables, &["end"]].concat();
+            key = numbers.one_of(&keys).as_bytes().to_vec();
         }
     }
     text.splice(start..start + length, key);
@@ -311,7 +344,7 @@ fn add_text_after_end(numbers: &mut Numbers, text: &mut Vec<u8>) {
 fn a_byte(numbers: &mut Numbers) -> u8 {
     match numbers.once_in(4) {
         true => numbers.any() as u8,
-        false => numbers.one_of(b"0123456789,=\n\r +-enozdaulpth\0\xff"),
+        false => numbers.one_of(b"0123456789,=\n\r +-enozdaulpthwkyfirm\0\xff"),
     }
 }
 
@@ -334,9 +367,31 @@ fn lines_of(text: &[u8]) -> Vec<(usize, usize)> {
 }
 
 fn a_line(numbers: &mut Numbers, text: &[u8]) -> Option<(usize, usize)> {
+    if numbers.once_in(2) {
+        return a_line_of_a_key(numbers, text);
+    }
     let lines = lines_of(text);
     let last = lines.len().checked_sub(1)?;
     Some(lines[numbers.somewhere(0, last)])
+}
+
+/// Every key as often, however many lines it has.
+fn a_line_of_a_key(numbers: &mut Numbers, text: &[u8]) -> Option<(usize, usize)> {
+    let lines = lines_of(text);
+    let keys: Vec<&[(usize, usize)]> = lines
+        .chunk_by(|&one, &next| key_of(text, one) == key_of(text, next))
+        .collect();
+    if keys.is_empty() {
+        return None;
+    }
+    let lines = numbers.one_of(&keys);
+    Some(lines[numbers.first_middle_or_last(0, lines.len() - 1)])
+}
+
+/// What stands before the line's `=`.
+fn key_of(text: &[u8], (start, end): (usize, usize)) -> &[u8] {
+    let mut parts = text[start..end].split(|&byte| byte == b'=');
+    parts.next().unwrap_or_default()
 }
 
 /// Where each run of digits starts and ends.
@@ -353,7 +408,12 @@ fn numbers_in(text: &[u8]) -> Vec<(usize, usize)> {
 }
 
 fn a_number(numbers: &mut Numbers, text: &[u8]) -> Option<(usize, usize)> {
-    let found = numbers_in(text);
+    let (start, end) = match numbers.once_in(2) {
+        true => a_line_of_a_key(numbers, text)?,
+        false => (0, text.len()),
+    };
+    let found = numbers_in(&text[start..end]);
     let last = found.len().checked_sub(1)?;
-    Some(found[numbers.somewhere(0, last)])
+    let (first, after) = found[numbers.somewhere(0, last)];
+    Some((start + first, start + after))
 }

@@ -1,12 +1,14 @@
 //! Faults in a month's tables, each at the first row, the last or one in the middle.
 
 use super::numbers::Numbers;
-use super::{Made, ACCOUNTS, LOADS, OWNERS, RESERVATIONS, UNITS, ZONES};
-use crate::tables::WIDTHS;
+use super::Made;
+use crate::tables::{
+    Head, ACCOUNTS, FIRM, FORMS, HEAD_KEYS, LOADS, OWNERS, RESERVATIONS, UNITS, ZONES,
+};
 
 const DEFECTS: [fn(&mut Numbers, &mut Made); 11] = [
     wrong_month,
-    non_zone_rate_out_of_range,
+    head_entry_out_of_range,
     entry_out_of_range,
     entry_out_of_range,
     entries_at_odds,
@@ -22,24 +24,40 @@ pub fn add_defect(numbers: &mut Numbers, made: &mut Made) {
     numbers.one_of(&DEFECTS)(numbers, made);
 }
 
+const ALL: [usize; FORMS.len()] = [ZONES, OWNERS, UNITS, ACCOUNTS, LOADS, RESERVATIONS, FIRM];
+
 /// The least entries of a good row.
-const LEAST: [&[u64]; 6] = [
+const LEAST: [&[u64]; FORMS.len()] = [
     &[1, 0],
     &[1, 1, 0],
     &[1, 1, 1, 1, 0, 0],
     &[1, 1, 0],
     &[1, 1, 0],
     &[1, 0, 0],
+    &[1, 1, 0, 1, 0],
 ];
 
 /// The greatest entries of a good row in a month of 31 days.
-const GREATEST: [&[u64]; 6] = [
+const GREATEST: [&[u64]; FORMS.len()] = [
     &[999, 100_000_000],
     &[9_999, 999, 1_000_000_000_000],
     &[9_999, 9_999, 999, 2, 1_000_000_000_000, 10_000_000_000],
     &[9_999, 1_000_000_000, 999],
     &[9_999, 31, 1_000_000],
     &[9_999, 1_000_000_000, 1_000_000_000],
+    &[9_999, 3, 1, 31, 1_000_000],
+];
+
+/// How many entries rows ascend by.
+const ASCENDING: [usize; FORMS.len()] = [1, 1, 1, 1, 2, 1, 4];
+
+/// The least and the greatest of the head's entries after the month and its days.
+const HEAD_RANGES: [(u64, u64); HEAD_KEYS.len() - 2] = [
+    (0, 100_000_000),
+    (0, 100_000_000),
+    (0, 100_000_000),
+    (0, 100_000_000),
+    (1, 7),
 ];
 
 fn wrong_month(numbers: &mut Numbers, made: &mut Made) {
@@ -62,33 +80,37 @@ fn wrong_month(numbers: &mut Numbers, made: &mut Made) {
     }
 }
 
-fn non_zone_rate_out_of_range(numbers: &mut Numbers, made: &mut Made) {
-    made.head.non_zone_rate = above(numbers, 100_000_000);
+fn head_entry_out_of_range(numbers: &mut Numbers, made: &mut Made) {
+    set_head_entry(numbers, made, outside);
+}
+
+fn set_head_entry(
+    numbers: &mut Numbers,
+    made: &mut Made,
+    choose: fn(&mut Numbers, u64, u64) -> u64,
+) {
+    let position = numbers.position_below(HEAD_RANGES.len());
+    let (least, greatest) = HEAD_RANGES[position];
+    let mut head = made.head.numbers();
+    head[2 + position] = choose(numbers, least, greatest);
+    made.head = Head::from_numbers(head);
 }
 
 fn entry_out_of_range(numbers: &mut Numbers, made: &mut Made) {
-    let Some((table, row)) = a_row(
-        numbers,
-        made,
-        &[ZONES, OWNERS, UNITS, ACCOUNTS, LOADS, RESERVATIONS],
-    ) else {
+    let Some((table, row)) = a_row(numbers, made, &ALL) else {
         return;
     };
-    let entry = numbers.position_below(WIDTHS[table]);
+    let entry = numbers.position_below(FORMS[table].width);
     let greatest = match (table, entry) {
-        (LOADS, 1) => made.head.days,
+        (LOADS, 1) | (FIRM, 3) => made.head.days,
         _ => GREATEST[table][entry],
     };
-    let bad = match LEAST[table][entry] {
-        1 if numbers.once_in(2) => 0,
-        _ => above(numbers, greatest),
-    };
-    made.rows[table][row][entry] = bad;
+    made.rows[table][row][entry] = outside(numbers, LEAST[table][entry], greatest);
 }
 
 /// Entries that are each in range by themselves but not beside another.
 fn entries_at_odds(numbers: &mut Numbers, made: &mut Made) {
-    match numbers.below(3) {
+    match numbers.below(5) {
         0 => {
             if let Some((table, row)) = a_row(numbers, made, &[UNITS]) {
                 made.rows[table][row][3] = 2;
@@ -102,10 +124,20 @@ fn entries_at_odds(numbers: &mut Numbers, made: &mut Made) {
                 row[2] = numbers.between(row[1] + 1, (row[1] + 2).min(1_000_000_000));
             }
         }
-        _ => {
+        2..=3 => {
             // Also day 31 of April.
-            if let Some((table, row)) = a_row(numbers, made, &[LOADS]) {
-                made.rows[table][row][1] = numbers.between(made.head.days, 32);
+            if let Some((table, row)) = a_row(numbers, made, &[LOADS, FIRM]) {
+                let entry = if table == LOADS { 1 } else { 3 };
+                let days = made.head.days;
+                made.rows[table][row][entry] =
+                    numbers.one_of(&[days, days.wrapping_add(1), 31, 32]);
+            }
+        }
+        _ => {
+            // A month that starts on another day than the first.
+            if let Some((table, row)) = a_row(numbers, made, &[FIRM]) {
+                made.rows[table][row][1] = 3;
+                made.rows[table][row][3] = numbers.between(2, made.head.days.max(2));
             }
         }
     }
@@ -113,43 +145,43 @@ fn entries_at_odds(numbers: &mut Numbers, made: &mut Made) {
 
 /// Good by itself; often out of order or without a row to name.
 fn entry_at_its_limit(numbers: &mut Numbers, made: &mut Made) {
-    if numbers.once_in(8) {
-        made.head.non_zone_rate = 100_000_000;
+    if numbers.once_in(4) {
+        set_head_entry(numbers, made, either);
     }
-    let Some((table, row)) = a_row(
-        numbers,
-        made,
-        &[ZONES, OWNERS, UNITS, ACCOUNTS, LOADS, RESERVATIONS],
-    ) else {
+    let Some((table, row)) = a_row(numbers, made, &ALL) else {
         return;
     };
-    let entry = numbers.position_below(WIDTHS[table]);
-    made.rows[table][row][entry] = match numbers.once_in(2) {
-        true => LEAST[table][entry],
-        false => GREATEST[table][entry],
-    };
+    let entry = numbers.position_below(FORMS[table].width);
+    made.rows[table][row][entry] = either(numbers, LEAST[table][entry], GREATEST[table][entry]);
 }
 
 fn row_out_of_order(numbers: &mut Numbers, made: &mut Made) {
-    let tables = [ZONES, OWNERS, UNITS, ACCOUNTS, LOADS, RESERVATIONS];
-    let Some((table, row)) = a_later_row(numbers, made, &tables) else {
+    let Some((table, row)) = a_later_row(numbers, made, &ALL) else {
         return;
     };
     let rows = &mut made.rows[table];
     let before = rows[row - 1];
-    match numbers.below(6) {
+    let entries = ASCENDING[table];
+    // The entries before this one stay those of the row before.
+    let entry = numbers.position_below(entries);
+    match numbers.below(4) {
         0 => rows.swap(row - 1, row),
         1 => rows[row] = before,
-        2 => rows[row][0] = before[0],
-        3 => rows[row][0] = numbers.between(1, before[0]),
-        4 => rows[row][..2].copy_from_slice(&before[..2]),
-        // For a load, an earlier day of the same account.
-        _ => (rows[row][0], rows[row][1]) = (before[0], before[1].saturating_sub(1)),
+        2 => rows[row][..entries].copy_from_slice(&before[..entries]),
+        _ => {
+            let least = LEAST[table][entry].min(before[entry]);
+            let lower = match before[entry] > least && !numbers.once_in(4) {
+                true => before[entry] - 1,
+                false => numbers.between(least, before[entry]),
+            };
+            rows[row][..entry].copy_from_slice(&before[..entry]);
+            rows[row][entry] = lower;
+        }
     }
 }
 
 fn named_row_missing(numbers: &mut Numbers, made: &mut Made) {
-    match numbers.below(10) {
+    match numbers.below(12) {
         0 => drop_row(numbers, made, ZONES),
         1 => drop_row(numbers, made, OWNERS),
         2 => drop_row(numbers, made, ACCOUNTS),
@@ -158,6 +190,7 @@ fn named_row_missing(numbers: &mut Numbers, made: &mut Made) {
         5 => name_nothing(numbers, made, UNITS, 2, ZONES),
         6 => name_nothing(numbers, made, ACCOUNTS, 2, ZONES),
         7 => name_no_account(numbers, made, RESERVATIONS),
+        8..=9 => name_no_account(numbers, made, FIRM),
         _ => name_no_account(numbers, made, LOADS),
     }
 }
@@ -206,6 +239,18 @@ fn name_no_account(numbers: &mut Numbers, made: &mut Made, table: usize) {
         Some(number) => rows[row][0] = number,
         None => drop_row(numbers, made, ACCOUNTS),
     }
+}
+
+/// Below the least where there is such a number, or above the greatest.
+fn outside(numbers: &mut Numbers, least: u64, greatest: u64) -> u64 {
+    match least > 0 && numbers.once_in(2) {
+        true => least - 1,
+        false => above(numbers, greatest),
+    }
+}
+
+fn either(numbers: &mut Numbers, least: u64, greatest: u64) -> u64 {
+    numbers.one_of(&[least, greatest])
 }
 
 /// One past the greatest, or far past it, or like a good number in its lower bits.

@@ -1,10 +1,12 @@
 //! Good months of many sizes and shapes. Nearly all of them are accepted: a zone that is charged
-//! has an owner with a requirement, and a zone with units has use, unless the month is careless.
+//! has an owner with a requirement, a zone with units has use, and firm rows have an owner with a
+//! requirement somewhere, unless the month is careless.
 
+use super::firm::make_firm;
 use super::numbers::Numbers;
-use super::{row, Made, ACCOUNTS, LOADS, OWNERS, RESERVATIONS, UNITS, ZONES};
+use super::{row, Made};
 use crate::divide::LARGEST_POT;
-use crate::tables::Head;
+use crate::tables::{Head, ACCOUNTS, LOADS, OWNERS, RESERVATIONS, UNITS, ZONES};
 
 /// How many rows of each table.
 #[derive(Clone, Copy)]
@@ -16,6 +18,8 @@ pub struct Sizes {
     /// An account has a load on one day in so many, on average.
     pub days_apart: u64,
     pub reservations: usize,
+    /// As far as the accounts can have so many.
+    pub firm: usize,
 }
 
 impl Sizes {
@@ -26,6 +30,7 @@ impl Sizes {
         accounts: 32,
         days_apart: 1,
         reservations: 32,
+        firm: 992,
     };
 
     pub fn any(numbers: &mut Numbers) -> Sizes {
@@ -55,13 +60,18 @@ impl Sizes {
             accounts,
             days_apart: numbers.one_of(&[1, 2, 4, 10, 20, 40]),
             reservations: numbers.count_between(0, accounts),
+            firm: match numbers.below(4) {
+                0 => 0,
+                1 => numbers.count_between(1, 4),
+                _ => numbers.count_between(0, 12 * accounts),
+            },
         }
     }
 }
 
 /// How large a month's figures are.
 #[derive(Clone, Copy)]
-enum Level {
+pub enum Level {
     /// All alike and small, so that cents are left over and remainders are equal.
     Alike(u64),
     Small,
@@ -91,6 +101,7 @@ pub fn good(numbers: &mut Numbers, sizes: &Sizes) -> Made {
     make_loads(numbers, &mut made, sizes, level);
     make_reservations(numbers, &mut made, sizes, level);
     make_rates(numbers, &mut made, level, careless);
+    make_firm(numbers, &mut made, sizes, level, careless);
     if !made.rows[OWNERS].is_empty() {
         make_units(numbers, &mut made, sizes, level, careless);
     }
@@ -111,7 +122,9 @@ fn head(numbers: &mut Numbers, sizes: &Sizes) -> Head {
     Head {
         month,
         days,
-        non_zone_rate: 0,
+        weekday: numbers.between(1, 7),
+        // The rates come when it is known what they are for.
+        ..Head::default()
     }
 }
 
@@ -194,14 +207,8 @@ fn make_loads(numbers: &mut Numbers, made: &mut Made, sizes: &Sizes, level: Leve
 }
 
 fn make_reservations(numbers: &mut Numbers, made: &mut Made, sizes: &Sizes, level: Level) {
-    let mut wanted = sizes.reservations as u64;
     let accounts = made.column(ACCOUNTS, 0);
-    for (position, &account) in accounts.iter().enumerate() {
-        let left = (accounts.len() - position) as u64;
-        if numbers.below(left) >= wanted {
-            continue;
-        }
-        wanted -= 1;
+    for account in numbers.so_many_of(&accounts, sizes.reservations) {
         let reserved = match level {
             Level::Alike(reserved) => 24 * reserved,
             Level::Small => numbers.up_to(100),

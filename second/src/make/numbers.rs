@@ -50,6 +50,19 @@ impl Numbers {
         choices[self.position_below(choices.len())]
     }
 
+    /// So many of them, or all where there are fewer, in their order.
+    pub fn so_many_of<T: Copy>(&mut self, all: &[T], count: usize) -> Vec<T> {
+        let mut wanted = count as u64;
+        let mut left = all.len() as u64;
+        let chosen = all.iter().filter(|_| {
+            let choose = self.below(left) < wanted;
+            left -= 1;
+            wanted -= u64::from(choose);
+            choose
+        });
+        chosen.copied().collect()
+    }
+
     /// The first, the last or one in the middle, each as often: faults like to hide at the ends.
     pub fn first_middle_or_last(&mut self, first: usize, last: usize) -> usize {
         match self.below(3) {

@@ -2,7 +2,7 @@
 
 use crate::settled::{settled_months, sum, units_pot};
 use second::divide::check;
-use second::make::{OWNERS, UNITS};
+use second::tables::{OWNERS, UNITS};
 
 const MONTHS: u64 = 20_000;
 
@@ -16,14 +16,15 @@ fn charges_equal_credits() {
             let (_, credits) = settled.owners_in(zone);
             assert_eq!(sum(&settled.charges_in(zone, 0)), sum(&credits));
         }
-        let border: u64 = settled.credits.iter().map(|credits| credits[1]).sum();
+        let border = sum(&settled.all_credits(1));
         assert_eq!(sum(&settled.charges_in(0, 0)), border);
-        // Over the pool for each service.
-        for (charge, credit) in [(1, 2), (2, 3)] {
-            let charges: u64 = settled.charges.iter().map(|charges| charges[charge]).sum();
-            let credits: u64 = settled.credits.iter().map(|credits| credits[credit]).sum();
-            assert_eq!(charges, credits);
+        // Over the pool for each service, and for firm reservations.
+        for (charge, credit) in [(1, 2), (2, 3), (3, 4)] {
+            let charges = sum(&settled.all_charges(charge));
+            assert_eq!(charges, sum(&settled.all_credits(credit)));
         }
+        let charges = settled.charges.concat();
+        assert_eq!(sum(&charges), sum(&settled.credits.concat()));
     }
     assert!(months > MONTHS / 3, "{months}");
 }

@@ -1,22 +1,17 @@
 //! "Figures to hold against it", and more of them for zones without requirement.
 
+use crate::{tables_of, APRIL};
 use second::divide::{check, divide_alone};
 use second::make::CASE_S;
 use second::refusal::{Refusal, BASE, BIG};
-use second::settle::{network_charge, settle, unit_month};
+use second::settle::{network_charge, settle, unit_month, CHARGES};
 use second::statement;
-use second::tables::{Head, Tables};
-
-const APRIL: Head = Head {
-    month: 4,
-    days: 30,
-    non_zone_rate: 0,
-};
+use second::tables::{Head, Tables, LOADS, RESERVATIONS};
 
 const DECEMBER: Head = Head {
     month: 12,
     days: 31,
-    non_zone_rate: 0,
+    ..APRIL
 };
 
 fn divided(pot: u64, weights: &[u64]) -> Result<Vec<u128>, u64> {
@@ -25,21 +20,21 @@ fn divided(pot: u64, weights: &[u64]) -> Result<Vec<u128>, u64> {
 
 /// What the accounts are charged for a service.
 fn charged(head: Head, tables: &Tables, service: u64) -> Result<Vec<u64>, Refusal> {
-    let (charges, _) = settle(head, tables, tables[3].len(), 4 * tables[1].len() / 3)?;
-    let charges = charges.chunks(3).map(|charges| charges[service as usize]);
-    Ok(charges.collect())
+    let (charges, _) = settle(head, tables, usize::MAX, usize::MAX)?;
+    let charges = charges.chunks(CHARGES);
+    Ok(charges.map(|charges| charges[service as usize]).collect())
 }
 
 /// Zones 1 and 2, both without rates, and an owner.
 fn two_zones(units: &[[u64; 6]], accounts: &[u64], loads: &[u64], reservations: &[u64]) -> Tables {
-    [
-        vec![1, 0, 2, 0],
-        vec![1, 1, 5],
-        units.concat(),
-        accounts.to_vec(),
-        loads.to_vec(),
-        reservations.to_vec(),
-    ]
+    tables_of(&[
+        &[1, 0, 2, 0],
+        &[1, 1, 5],
+        &units.concat(),
+        accounts,
+        loads,
+        reservations,
+    ])
 }
 
 #[test]
@@ -47,10 +42,10 @@ fn case_s() {
     let statement = String::from_utf8(statement(CASE_S)).expect("plain text");
     assert_eq!(
         statement,
-        "charge=1,2000,500,0\n\
-         charge=2,0,500,0\n\
-         credit=1,1333,0,0,0\n\
-         credit=2,667,0,1000,0\n\
+        "charge=1,2000,500,0,0\n\
+         charge=2,0,500,0,0\n\
+         credit=1,1333,0,0,0,0\n\
+         credit=2,667,0,1000,0,0\n\
          total=3000,3000\n"
     );
 }
@@ -101,22 +96,19 @@ fn b1() {
         let head = Head {
             month: 7,
             days: 31,
-            non_zone_rate: 0,
+            ..APRIL
         };
-        let tables = [
-            vec![1, 0, 2, 0],
-            vec![1, 1, 5],
-            vec![1, 1, 1, service, 12_000, 0, 2, 1, 2, service, 6_000, 0],
-            vec![1, 7, 1, 2, 8, 1, 3, 7, 2, 4, 7, 0],
-            vec![],
-            vec![1, 300, 0, 2, 150, 50, 3, 200, 0, 4, 100, 0],
-        ];
-        let (charges, credits) = settle(head, &tables, 12, 4).expect("a good month");
-        let place = service as usize;
-        let charged: Vec<u64> = charges.chunks(3).map(|charge| charge[place]).collect();
-        assert_eq!(charged, [643, 214, 429, 214]);
+        let units = [[1, 1, 1, service, 12_000, 0], [2, 1, 2, service, 6_000, 0]];
+        let accounts = [1, 7, 1, 2, 8, 1, 3, 7, 2, 4, 7, 0];
+        let reservations = [1, 300, 0, 2, 150, 50, 3, 200, 0, 4, 100, 0];
+        let tables = two_zones(&units, &accounts, &[], &reservations);
+        assert_eq!(
+            charged(head, &tables, service),
+            Ok(vec![643, 214, 429, 214])
+        );
+        let (charges, credits) = settle(head, &tables, 16, 5).expect("a good month");
         assert_eq!(charges.iter().sum::<u64>(), 1_500);
-        assert_eq!(credits[place + 1], 1_500);
+        assert_eq!(credits[service as usize + 1], 1_500);
         assert_eq!(credits.iter().sum::<u64>(), 1_500);
     }
     assert_eq!(divided(1_000, &[600, 100]), Ok(vec![857, 143]));
@@ -184,18 +176,17 @@ fn a_requirement_in_one_month_and_not_in_another() {
 fn a_non_zone_pot_too_big_for_its_division() {
     for (service, non_zone) in [(1, 10), (2, 17)] {
         let annual = 1_000_000_000_000;
-        let mut tables = [
-            vec![1, 0, 2, 0, 3, 0],
-            vec![1, 1, 5],
-            [[1, 1, 1, service, annual, 0], [2, 1, 2, service, annual, 0]].concat(),
-            vec![1, 7, 1, 2, 7, 2, 3, 7, 3],
-            vec![1, 1, 1, 2, 1, 1, 3, 1, 1_000_000],
-            vec![],
-        ];
+        let mut tables = tables_of(&[
+            &[1, 0, 2, 0, 3, 0],
+            &[1, 1, 5],
+            &[1, 1, 1, service, annual, 0, 2, 1, 2, service, annual, 0],
+            &[1, 7, 1, 2, 7, 2, 3, 7, 3],
+            &[1, 1, 1, 2, 1, 1, 3, 1, 1_000_000],
+        ]);
         assert_eq!(charged(APRIL, &tables, service), Err((BIG, 9, non_zone)));
         // Reserved, the same use stays in the zone.
-        tables[4].truncate(6);
-        tables[5] = vec![3, 24_000_000, 0];
+        tables[LOADS].truncate(6);
+        tables[RESERVATIONS] = vec![3, 24_000_000, 0];
         let pot = 83_333_333_333;
         assert_eq!(charged(APRIL, &tables, service), Ok(vec![pot, pot, 0]));
     }
@@ -221,11 +212,12 @@ fn each_service_by_its_own_requirements() {
 fn april_and_february() {
     let with = |head: &str, day: u64| {
         let text = format!(
-            "{head}nonzone=0\nzone=1,0\naccount=1,1,1\nload=1,1,1\nload=1,{day},1\nend=4\n"
+            "{head}nonzone=0\ndaily=0\nweekly=0\nmonthly=0\nweekday=1\n\
+             zone=1,0\naccount=1,1,1\nload=1,1,1\nload=1,{day},1\nend=4\n"
         );
         String::from_utf8(statement(text.as_bytes())).expect("plain text")
     };
-    let accepted = "charge=1,0,0,0\ntotal=0,0\n";
+    let accepted = "charge=1,0,0,0,0\ntotal=0,0\n";
     assert_eq!(with("month=4\ndays=30\n", 31), "refuse=4,5,1\n");
     assert_eq!(with("month=4\ndays=30\n", 30), accepted);
     assert_eq!(with("month=4\ndays=31\n", 31), "refuse=3,0,0\n");

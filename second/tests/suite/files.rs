@@ -1,12 +1,13 @@
 //! Every byte gets its answer: the month file and the statement, reading by reading.
 
-use second::make::{edits_of_case_s, CASE_S};
-use second::month_file::{read, write, FULL_SIZE};
+use second::make::{edits_of_case_s, CASE_S, FIRM_CASE};
+use second::month_file::{full_size, read, write};
 use second::statement;
 use second::statement::MOST_BYTES;
-use second::tables::{Head, Tables, LIMITS, WIDTHS};
+use second::tables::{Head, Tables, FIRM, FORMS};
 
-const NO_ROWS: &str = "month=4\ndays=30\nnonzone=0\n";
+/// The head's lines, 63 bytes.
+const NO_ROWS: &str = "month=4\ndays=30\nnonzone=0\ndaily=0\nweekly=0\nmonthly=0\nweekday=1\n";
 
 fn answer(text: impl AsRef<[u8]>) -> String {
     let statement = String::from_utf8(statement(text.as_ref())).expect("plain text");
@@ -19,14 +20,15 @@ fn a_missing_line_is_text_at_the_length() {
     assert_eq!(answer("month=4"), "refuse=10,0,0");
     assert_eq!(answer("month=4\n"), "refuse=10,0,8");
     assert_eq!(answer("month=4\ndays=30\n"), "refuse=10,0,16");
-    assert_eq!(answer(NO_ROWS), "refuse=10,0,26");
-    assert_eq!(answer(format!("{NO_ROWS}zone=1,0\n")), "refuse=10,0,35");
+    assert_eq!(answer("month=4\ndays=30\nnonzone=0\n"), "refuse=10,0,26");
+    assert_eq!(answer(NO_ROWS), "refuse=10,0,63");
+    assert_eq!(answer(format!("{NO_ROWS}zone=1,0\n")), "refuse=10,0,72");
 }
 
 #[test]
-fn case_s_cut_short_anywhere() {
-    for length in 0..CASE_S.len() {
-        let text = &CASE_S[..length];
+fn cut_short_anywhere() {
+    let lengths = |text: &'static [u8]| (0..text.len()).map(|length| &text[..length]);
+    for text in lengths(CASE_S).chain(lengths(FIRM_CASE)) {
         let line = text
             .iter()
             .rposition(|&byte| byte == b'\n')
@@ -34,7 +36,8 @@ fn case_s_cut_short_anywhere() {
         assert_eq!(
             answer(text),
             format!("refuse=10,0,{line}"),
-            "{length} bytes"
+            "{} bytes",
+            text.len()
         );
     }
 }
@@ -42,36 +45,50 @@ fn case_s_cut_short_anywhere() {
 #[test]
 fn a_last_line_wants_its_line_feed() {
     assert_eq!(answer(format!("{NO_ROWS}end=0\n")), "total=0,0");
-    assert_eq!(answer(format!("{NO_ROWS}end=0")), "refuse=10,0,26");
+    assert_eq!(answer(format!("{NO_ROWS}end=0")), "refuse=10,0,63");
 }
 
 #[test]
 fn a_head_line_left_out_or_repeated_or_moved() {
-    assert_eq!(answer("days=30\nnonzone=0\nend=0\n"), "refuse=10,0,0");
-    assert_eq!(answer("month=4\nnonzone=0\nend=0\n"), "refuse=10,0,8");
+    let mut offset = 0;
+    for line in NO_ROWS.split_inclusive('\n') {
+        let (before, after) = (&NO_ROWS[..offset], &NO_ROWS[offset + line.len()..]);
+        let here = format!("refuse=10,0,{offset}");
+        assert_eq!(answer(format!("{before}{after}end=0\n")), here);
+        if !after.is_empty() {
+            assert_eq!(answer(format!("{before}{after}{line}end=0\n")), here);
+        }
+        let (key, _) = line.split_once('=').expect("a head line");
+        for wrong in ["", "0,0", "00", "+0", "18446744073709551616"] {
+            let text = format!("{before}{key}={wrong}\n{after}end=0\n");
+            assert_eq!(answer(text), here, "{key}={wrong}");
+        }
+        offset += line.len();
+        let repeated = format!("{before}{line}{line}{after}end=0\n");
+        assert_eq!(answer(repeated), format!("refuse=10,0,{offset}"));
+    }
+    // The head as it was before there were firm reservations.
     assert_eq!(
-        answer("month=4\nmonth=4\ndays=30\nnonzone=0\nend=0\n"),
-        "refuse=10,0,8"
-    );
-    assert_eq!(answer("month=4\ndays=30\nend=0\n"), "refuse=10,0,16");
-    assert_eq!(
-        answer(format!("{NO_ROWS}nonzone=0\nend=0\n")),
+        answer("month=4\ndays=30\nnonzone=0\nend=0\n"),
         "refuse=10,0,26"
     );
+    // Case S without its weekday.
+    let case_s = String::from_utf8(CASE_S.to_vec()).expect("plain text");
+    assert_eq!(answer(case_s.replace("weekday=1\n", "")), "refuse=10,0,53");
 }
 
 #[test]
 fn the_end() {
-    assert_eq!(answer(format!("{NO_ROWS}end=1\n")), "refuse=10,0,26");
-    assert_eq!(answer(format!("{NO_ROWS}end=1\nmore")), "refuse=10,0,26");
-    assert_eq!(answer(format!("{NO_ROWS}end=0\nmore")), "refuse=10,0,32");
-    assert_eq!(answer(format!("{NO_ROWS}end=0\n\n")), "refuse=10,0,32");
-    assert_eq!(answer(format!("{NO_ROWS}end=0\nend=0\n")), "refuse=10,0,32");
-    assert_eq!(answer(format!("{NO_ROWS}end=00\n")), "refuse=10,0,26");
-    assert_eq!(answer(format!("{NO_ROWS}end=0,0\n")), "refuse=10,0,26");
-    assert_eq!(answer(format!("{NO_ROWS}end\n")), "refuse=10,0,26");
+    assert_eq!(answer(format!("{NO_ROWS}end=1\n")), "refuse=10,0,63");
+    assert_eq!(answer(format!("{NO_ROWS}end=1\nmore")), "refuse=10,0,63");
+    assert_eq!(answer(format!("{NO_ROWS}end=0\nmore")), "refuse=10,0,69");
+    assert_eq!(answer(format!("{NO_ROWS}end=0\n\n")), "refuse=10,0,69");
+    assert_eq!(answer(format!("{NO_ROWS}end=0\nend=0\n")), "refuse=10,0,69");
+    assert_eq!(answer(format!("{NO_ROWS}end=00\n")), "refuse=10,0,63");
+    assert_eq!(answer(format!("{NO_ROWS}end=0,0\n")), "refuse=10,0,63");
+    assert_eq!(answer(format!("{NO_ROWS}end\n")), "refuse=10,0,63");
     let wrapped = format!("{NO_ROWS}end=18446744073709551616\n");
-    assert_eq!(answer(wrapped), "refuse=10,0,26");
+    assert_eq!(answer(wrapped), "refuse=10,0,63");
 }
 
 #[test]
@@ -109,32 +126,48 @@ fn lines_that_do_not_fit() {
         "zone=1;0",
         "=1,0",
         "month=4",
+        "weekday=1",
+        "firm=1,1,0,1",
+        "firm=1,1,0,1,0,0",
+        "firm=1,1,0,1,",
+        "firms=1,1,0,1,0",
         "end=",
     ] {
         let text = format!("{NO_ROWS}{line}\nend=1\n");
-        assert_eq!(answer(&text), "refuse=10,0,26", "{line:?}");
+        assert_eq!(answer(&text), "refuse=10,0,63", "{line:?}");
     }
     let mut text = NO_ROWS.as_bytes().to_vec();
     text.extend(b"zone=1,\xb2\nend=1\n");
-    assert_eq!(answer(text), "refuse=10,0,26");
+    assert_eq!(answer(text), "refuse=10,0,63");
 }
 
 #[test]
 fn any_number_below_2_to_the_64_is_read() {
     let text = format!("{NO_ROWS}zone=18446744073709551615,18446744073709551615\nend=1\n");
     assert_eq!(answer(&text), "refuse=4,1,0");
-    let (_, tables) = read(text.as_bytes(), &FULL_SIZE).expect("a good file");
+    let (_, tables) = read(text.as_bytes(), &full_size()).expect("a good file");
     assert_eq!(tables[0], [u64::MAX, u64::MAX]);
-    assert_eq!(
-        answer("month=18446744073709551615\ndays=0\nnonzone=0\nend=0\n"),
-        "refuse=3,0,0"
-    );
+    let most = u64::MAX.to_string();
+    let head = NO_ROWS.replace("=4", &format!("={most}"));
+    assert_eq!(answer(format!("{head}end=0\n")), "refuse=3,0,0");
+    for key in ["nonzone", "daily", "weekly", "monthly", "weekday"] {
+        let start = NO_ROWS.find(&format!("\n{key}=")).expect("a head line") + key.len() + 2;
+        let mut head = NO_ROWS.to_string();
+        head.replace_range(start..=start, &most);
+        assert_eq!(answer(format!("{head}end=0\n")), "refuse=4,0,0", "{key}");
+    }
 }
 
 #[test]
 fn tables_come_in_turn() {
     let zone_late = format!("{NO_ROWS}owner=1,1,0\nzone=1,0\nend=2\n");
-    assert_eq!(answer(zone_late), "refuse=10,0,38");
+    assert_eq!(answer(zone_late), "refuse=10,0,75");
+    let ptp_late = format!("{NO_ROWS}firm=1,1,0,1,0\nptp=1,0,0\nend=2\n");
+    assert_eq!(answer(ptp_late), "refuse=10,0,78");
+    let firm_last = format!("{NO_ROWS}ptp=1,0,0\nfirm=1,1,0,1,0\nend=2\n");
+    assert_eq!(answer(firm_last), "refuse=6,6,0");
+    let not_counted = format!("{NO_ROWS}ptp=1,0,0\nfirm=1,1,0,1,0\nend=1\n");
+    assert_eq!(answer(not_counted), "refuse=10,0,88");
     // Without zones the owner names none.
     let left_out = format!("{NO_ROWS}owner=1,1,0\nptp=1,0,0\nend=2\n");
     assert_eq!(answer(left_out), "refuse=6,2,0");
@@ -142,13 +175,10 @@ fn tables_come_in_turn() {
 
 #[test]
 fn a_row_over_a_tables_limit() {
-    for (table, key) in ["zone", "owner", "unit", "account", "load", "ptp"]
-        .iter()
-        .enumerate()
-    {
-        let row = format!("{key}={}\n", vec!["1"; WIDTHS[table]].join(","));
-        let full = NO_ROWS.to_string() + &row.repeat(LIMITS[table]);
-        let (number, limit) = (table + 1, LIMITS[table]);
+    for form in FORMS {
+        let (number, key, limit) = (form.number, form.key, form.limit);
+        let row = format!("{key}={}\n", vec!["1"; form.width].join(","));
+        let full = NO_ROWS.to_string() + &row.repeat(limit);
         let count = format!("refuse=1,{number},{limit}");
         let text = format!("refuse=10,0,{}", full.len());
 
@@ -172,44 +202,46 @@ fn a_row_over_a_tables_limit() {
 
 #[test]
 fn the_limit_of_the_statement() {
+    assert_eq!(MOST_BYTES, 65_536);
     let mut text = format!("{NO_ROWS}end=0\n").into_bytes();
     text.resize(MOST_BYTES, b'\n');
-    assert_eq!(answer(&text), "refuse=10,0,32");
+    assert_eq!(answer(&text), "refuse=10,0,69");
     text.push(b'\n');
     assert_eq!(answer(&text), "refuse=1,0,0");
     // Reading itself takes a text of any length.
-    assert_eq!(read(&text, &FULL_SIZE), Err((10, 0, 32)));
-    assert_eq!(answer(vec![0; 40_000]), "refuse=1,0,0");
+    assert_eq!(read(&text, &full_size()), Err((10, 0, 69)));
+    assert_eq!(answer(vec![0; 70_000]), "refuse=1,0,0");
 }
 
 #[test]
 fn reading_wants_tables_at_full_size() {
-    for table in 0..6 {
-        assert_eq!(FULL_SIZE[table], LIMITS[table] * WIDTHS[table]);
-        let mut lent = FULL_SIZE;
+    assert_eq!(full_size(), [32, 192, 384, 96, 2_976, 96, 4_960]);
+    for (table, form) in FORMS.iter().enumerate() {
+        let mut lent = full_size();
         lent[table] += 1;
         assert!(read(CASE_S, &lent).is_ok());
-        lent[table] = FULL_SIZE[table] - 1;
-        lent[5] = 0;
-        let first_short = if table == 5 { 6 } else { table as u64 + 1 };
-        assert_eq!(read(b"nothing", &lent), Err((2, first_short, 0)));
+        lent[table] = form.full_size() - 1;
+        lent[FIRM] = 0;
+        assert_eq!(read(b"nothing", &lent), Err((2, form.number, 0)));
     }
 }
 
 #[test]
 fn writing_refuses_count_then_room() {
     let head = Head::default();
-    for table in 0..6 {
+    for (table, form) in FORMS.iter().enumerate() {
         let mut tables = Tables::default();
-        tables[table] = vec![7; FULL_SIZE[table] + WIDTHS[table]];
-        assert_eq!(write(head, &tables, 0), Err((1, table as u64 + 1, 0)));
-        tables[table] = vec![7; WIDTHS[table] + 1];
-        tables[5].push(7);
-        assert_eq!(write(head, &tables, 0), Err((1, table as u64 + 1, 0)));
+        tables[table] = vec![7; form.full_size() + form.width];
+        assert_eq!(write(head, &tables, 0), Err((1, form.number, 0)));
+        tables[table] = vec![7; form.width + 1];
+        tables[FIRM].push(7);
+        assert_eq!(write(head, &tables, 0), Err((1, form.number, 0)));
     }
-    let (head, tables) = read(CASE_S, &FULL_SIZE).expect("case S");
-    assert_eq!(write(head, &tables, CASE_S.len() - 1), Err((2, 0, 0)));
-    assert_eq!(write(head, &tables, CASE_S.len()).as_deref(), Ok(CASE_S));
+    for text in [CASE_S, FIRM_CASE] {
+        let (head, tables) = read(text, &full_size()).expect("a good file");
+        assert_eq!(write(head, &tables, text.len() - 1), Err((2, 0, 0)));
+        assert_eq!(write(head, &tables, text.len()).as_deref(), Ok(text));
+    }
 }
 
 #[test]

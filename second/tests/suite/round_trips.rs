@@ -1,8 +1,8 @@
 //! Reading undoes writing, and writing undoes reading.
 
 use second::make::{self, Numbers};
-use second::month_file::{read, write, FULL_SIZE};
-use second::tables::{Head, Tables, LIMITS, WIDTHS};
+use second::month_file::{full_size, read, write};
+use second::tables::{Head, Tables, FORMS};
 
 #[test]
 fn what_is_written_is_read_again() {
@@ -14,22 +14,18 @@ fn what_is_written_is_read_again() {
             2 => numbers.any() >> numbers.below(64),
             _ => numbers.any(),
         };
-        let head = Head {
-            month: number(&mut numbers),
-            days: number(&mut numbers),
-            non_zone_rate: number(&mut numbers),
-        };
-        let tables: Tables = std::array::from_fn(|table| {
+        let head = Head::from_numbers(std::array::from_fn(|_| number(&mut numbers)));
+        let tables: Tables = FORMS.map(|form| {
             let rows = match numbers.below(4) {
                 0 => 0,
-                1 => LIMITS[table],
-                _ => numbers.count_between(0, LIMITS[table]),
+                1 => form.limit,
+                _ => numbers.count_between(0, form.limit),
             };
-            let entries = 0..rows * WIDTHS[table];
+            let entries = 0..rows * form.width;
             entries.map(|_| number(&mut numbers)).collect()
         });
         let text = write(head, &tables, usize::MAX).expect("tables within their limits");
-        assert_eq!(read(&text, &FULL_SIZE), Ok((head, tables)));
+        assert_eq!(read(&text, &full_size()), Ok((head, tables)));
     }
 }
 
@@ -38,7 +34,7 @@ fn what_is_read_is_written_again() {
     let mut read_again = 0;
     for index in 0..20_000 {
         for text in [make::damaged(12, index), make::month(12, index).text()] {
-            if let Ok((head, tables)) = read(&text, &FULL_SIZE) {
+            if let Ok((head, tables)) = read(&text, &full_size()) {
                 let written = write(head, &tables, text.len());
                 assert_eq!(written.as_deref(), Ok(&text[..]));
                 read_again += 1;

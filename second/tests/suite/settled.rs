@@ -1,13 +1,14 @@
 //! Accepted months with their divisions worked out anew, from the tables and the settled figures
 //! alone.
 
-use second::make::{self, Made, ACCOUNTS, LOADS, OWNERS, RESERVATIONS, UNITS, ZONES};
-use second::settle::settle;
+use second::make::{self, Made};
+use second::settle::{settle, CHARGES, CREDITS};
+use second::tables::{ACCOUNTS, LOADS, OWNERS, RESERVATIONS, UNITS, ZONES};
 
 pub struct Settled {
     pub made: Made,
-    pub charges: Vec<[u64; 3]>,
-    pub credits: Vec<[u64; 4]>,
+    pub charges: Vec<[u64; CHARGES]>,
+    pub credits: Vec<[u64; CREDITS]>,
 }
 
 pub struct Division {
@@ -19,14 +20,16 @@ pub struct Division {
 
 /// The accepted ones of so many made-up months.
 pub fn settled_months(seed: u64, count: u64) -> impl Iterator<Item = Settled> {
-    (0..count).filter_map(move |index| {
-        let made = make::month(seed, index);
-        let (charges, credits) = settle(made.head, &made.tables(), usize::MAX, usize::MAX).ok()?;
-        Some(Settled {
-            made,
-            charges: rows(&charges),
-            credits: rows(&credits),
-        })
+    (0..count).filter_map(move |index| settled(make::month(seed, index)))
+}
+
+/// The month where it is accepted.
+pub fn settled(made: Made) -> Option<Settled> {
+    let (charges, credits) = settle(made.head, &made.tables(), usize::MAX, usize::MAX).ok()?;
+    Some(Settled {
+        made,
+        charges: rows(&charges),
+        credits: rows(&credits),
     })
 }
 
@@ -57,16 +60,12 @@ impl Settled {
                 amounts,
             );
         }
-        let weights = self.made.rows[OWNERS]
-            .iter()
-            .map(|owner| owner[2])
-            .collect();
-        let amounts = self.credits.iter().map(|credits| credits[1]).collect();
+        let requirements: Vec<u64> = self.made.rows[OWNERS].iter().map(|row| row[2]).collect();
         add(
             "network non-zone",
             sum(&self.charges_in(0, 0)),
-            weights,
-            amounts,
+            requirements.clone(),
+            self.all_credits(1),
         );
 
         let kinds = [
@@ -114,7 +113,23 @@ impl Settled {
                 .unzip();
             add(non_zone, non_zone_pot, weights, charges);
         }
+        add(
+            "firm",
+            sum(&self.all_charges(3)),
+            requirements,
+            self.all_credits(4),
+        );
         divisions
+    }
+
+    /// One charge of every account.
+    pub fn all_charges(&self, kind: usize) -> Vec<u64> {
+        self.charges.iter().map(|charges| charges[kind]).collect()
+    }
+
+    /// One credit of every owner.
+    pub fn all_credits(&self, kind: usize) -> Vec<u64> {
+        self.credits.iter().map(|credits| credits[kind]).collect()
     }
 
     pub fn zones(&self) -> impl Iterator<Item = u64> + '_ {

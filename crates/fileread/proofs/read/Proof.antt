@@ -13,7 +13,7 @@ use Rattle.fileread.proofs.read.Tie as tie
 
 -- the function's entry, from behind the look at ROOM, and that look from behind the judgement
 abbrev start : tie.After-judge-room → tie.Start
-start c = c .before .before .before .before .before .before .before .before
+start c = c .before .before .before .before .before .before .before .before .before
 
 abbrev looked : tie.After-judge-text → tie.After-judge-room
 looked c = c .before .before .before
@@ -24,7 +24,7 @@ text c = start c .args .text .now
 abbrev lent : tie.After-judge-room → Tables
 lent c =
     tablesOf (start c .args .zones .now) (start c .args .owners .now) (start c .args .units .now) (start c .args .accounts .now) (start c .args .loads .now)
-    (start c .args .reservations .now)
+    (start c .args .reservations .now) (start c .args .firm .now)
 
 room-is : (c : tie.After-judge-room) → c .judge-room .result ≡ readRoom (lent c)
 room-is c = c .judge-room .ensures ∙ rooms-lent (lent c)
@@ -55,38 +55,41 @@ returns-2 c =
 
 fill-requires : tie.Need-fill-requires
 fill-requires c κs =
-    let j = c .before .before .before .before .before .before .before .before .before .before .before in
+    let j = c .before .before .before .before .before .before .before .before .before .before .before .before in
     let r = looked j in
     read-ready (text r) (lent r) (r .judge-room .result) (room-is r) (j .before .if1 .left) (j .judge-text .result .held) (j .judge-text .result .body)
-    (j .judge-text .ensures) (c .before .before .before .before .before .before .before .if2 .left) (j .judge-text .result .held .counts) refl
+    (j .judge-text .ensures) (c .before .before .before .before .before .before .before .before .if2 .left) (j .judge-text .result .held .counts) refl
 
 same-length : tie.Need-same-length
-same-length c = c .before .before .before .before .before .before .before .before .before .before .before .before .fill .kept .1 .1 .1 .0
+same-length c = c .before .before .before .before .before .before .before .before .before .before .before .before .before .before .fill .kept .1 .1 .1 .0
 
 same-length-2 : tie.Need-same-length-2
-same-length-2 c = c .before .before .before .before .before .before .before .before .before .before .before .before .fill .kept .1 .1 .1 .1 .0
+same-length-2 c = c .before .before .before .before .before .before .before .before .before .before .before .before .before .before .fill .kept .1 .1 .1 .1 .0
 
 same-length-3 : tie.Need-same-length-3
-same-length-3 c = c .before .before .before .before .before .before .before .before .before .before .before .before .fill .kept .1 .1 .1 .1 .1 .0
+same-length-3 c = c .before .before .before .before .before .before .before .before .before .before .before .before .before .before .fill .kept .1 .1 .1 .1 .1 .0
 
 same-length-4 : tie.Need-same-length-4
-same-length-4 c = c .before .before .before .before .before .before .before .before .before .before .before .before .fill .kept .1 .1 .1 .1 .1 .1 .0
+same-length-4 c = c .before .before .before .before .before .before .before .before .before .before .before .before .before .before .fill .kept .1 .1 .1 .1 .1 .1 .0
 
 same-length-5 : tie.Need-same-length-5
-same-length-5 c = c .before .before .before .before .before .before .before .before .before .before .before .before .fill .kept .1 .1 .1 .1 .1 .1 .1 .0
+same-length-5 c = c .before .before .before .before .before .before .before .before .before .before .before .before .before .before .fill .kept .1 .1 .1 .1 .1 .1 .1 .0
 
 same-length-6 : tie.Need-same-length-6
-same-length-6 c = c .before .before .before .before .before .before .before .before .before .before .before .before .fill .kept .1 .1 .1 .1 .1 .1 .1 .1 .0
+same-length-6 c = c .before .before .before .before .before .before .before .before .before .before .before .before .before .before .fill .kept .1 .1 .1 .1 .1 .1 .1 .1 .0
+
+same-length-7 : tie.Need-same-length-7
+same-length-7 c = c .before .before .before .before .before .before .before .before .before .before .before .before .before .before .fill .kept .1 .1 .1 .1 .1 .1 .1 .1 .1 .0
 
 returns-3 : tie.Need-returns-3
 returns-3 c =
-    let filled = c .before .before .before .before .before .before .before .before .before .before .before .before .fill .last in
-    let j = c .before .before .before .before .before .before .before .before .before .before .before .before .before .before .before .before .before .before .before .before .before .before .before .before in
+    let filled = c .before .before .before .before .before .before .before .before .before .before .before .before .before .before .fill .last in
+    let j = c .before .before .before .before .before .before .before .before .before .before .before .before .before .before .before .before .before .before .before .before .before .before .before .before .before .before .before in
     let r = looked j in
     read-filled (text r) (lent r) (r .judge-room .result) (room-is r) (j .before .if1 .left) (j .judge-text .result .held) (j .judge-text .result .body)
-    (j .judge-text .ensures) (c .before .before .before .before .before .before .before .before .before .before .before .before .before .before .before .before .before .before .before .before .if2 .left)
-    (tablesOf (filled .1 .1 .1 .0) (filled .1 .1 .1 .1 .0) (filled .1 .1 .1 .1 .1 .0) (filled .1 .1 .1 .1 .1 .1 .0) (filled .1 .1 .1 .1 .1 .1 .1 .0) (filled .1 .1 .1 .1 .1 .1 .1 .1 .0))
-    (c .before .before .before .before .before .before .before .before .before .before .before .before .fill .ensures)
+    (j .judge-text .ensures) (c .before .before .before .before .before .before .before .before .before .before .before .before .before .before .before .before .before .before .before .before .before .before .before .if2 .left)
+    (tablesOf (filled .1 .1 .1 .0) (filled .1 .1 .1 .1 .0) (filled .1 .1 .1 .1 .1 .0) (filled .1 .1 .1 .1 .1 .1 .0) (filled .1 .1 .1 .1 .1 .1 .1 .0) (filled .1 .1 .1 .1 .1 .1 .1 .1 .0) (filled .1 .1 .1 .1 .1 .1 .1 .1 .1 .0))
+    (c .before .before .before .before .before .before .before .before .before .before .before .before .before .before .fill .ensures)
 
 pub read-spec : {M : Type 1} → statement M
 read-spec =
@@ -105,4 +108,5 @@ read-spec =
     same-length-4
     same-length-5
     same-length-6
+    same-length-7
     returns-3)

@@ -14,11 +14,14 @@ use Rattle.tables.specs.declared.Table.the-variants.{Zones}
 use Rattle.tables.specs.Shape.{limit, tablesFrom}
 use Rattle.pool.specs.Input.{Input}
 use Rattle.settlement.specs.Steps.{monthWith}
-use Rattle.settlement.proofs.Settling.{first-long, account-column, new-whole, Begun, whole₁, divisible, servable, whole₂, whole₃, whole₄, month-divided}
+use Rattle.settlement.proofs.Settling.{first-long, account-column, new-whole, Begun, whole₁, divisible, servable, whole₂, whole₃, whole₄, reservable, whole₅, month-divided}
 use Rattle.settlement.proofs.divide_month.Statement.{statement}
 use Rattle.settlement.proofs.divide_month.Tie as tie
 
 -- the places behind the calls, each from the one after it
+abbrev servedTooAt : tie.After-settle3 → tie.After-settle2
+servedTooAt c = c .before .before .before .before .before .before .before
+
 abbrev servedAt : tie.After-settle2 → tie.After-settle
 servedAt c = c .before .before .before .before .before .before .before .before .before
 
@@ -38,7 +41,7 @@ abbrev startAt : tie.After-fill → tie.Start
 startAt c = startOf (countedAt c)
 
 abbrev monthAt : tie.Start → Input
-monthAt c = monthWith (c .args .month) (c .args .nonzone) (tablesFrom (map now (c .args .tables)))
+monthAt c = monthWith (c .args .month) (c .args .head) (tablesFrom (map now (c .args .tables)))
 
 begun : (c : tie.After-fill)
     → Begun (monthAt (startAt c)) (startAt c .args .accounts .now) (startAt c .args .owners .now) (c .fill .last .1 .1 .0) (replicate 32 0) (c .fill .last .1 .1 .1 .0) (c .fill .last .1 .1 .1 .1 .0)
@@ -163,38 +166,85 @@ settle-requires-2 c κs =
     let can = servable (begun filled) (whole₃ (begun filled) (credited .credit .ensures) (served .settle .ensures)) 2 3 (omega arith) (omega arith) in
     ((can .0 .0, can .0 .1, omega (arith, few-zones (countedAt filled), can .0 .0 .few-zones)), (can .1, can .2))
 
+sub-settle-5 : tie.Need-sub-settle-5
+sub-settle-5 c = search needs
+
+part-settle-start-5 : tie.Need-part-settle-start-5
+part-settle-start-5 c = search needs
+
+part-settle-end-5 : tie.Need-part-settle-end-5
+part-settle-end-5 c =
+    let served-too = c .before .before .before .before in
+    let served = servedAt served-too in
+    let credited = creditedAt served in
+    omega (arith, whole₄ (begun (filledAt credited)) (credited .credit .ensures) (served .settle .ensures) (served-too .settle2 .ensures) .for-accounts)
+
+sub-settle-6 : tie.Need-sub-settle-6
+sub-settle-6 c = search needs
+
+part-settle-start-6 : tie.Need-part-settle-start-6
+part-settle-start-6 c = search needs
+
+part-settle-end-6 : tie.Need-part-settle-end-6
+part-settle-end-6 c =
+    let served-too = c .before .before .before .before .before in
+    let served = servedAt served-too in
+    let credited = creditedAt served in
+    omega (arith, whole₄ (begun (filledAt credited)) (credited .credit .ensures) (served .settle .ensures) (served-too .settle2 .ensures) .for-owners)
+
+mul-settle-2 : tie.Need-mul-settle-2
+mul-settle-2 c = omega (arith, few-zones (countedAt (filledAt (creditedAt (servedAt (c .before .before .before .before .before .before))))))
+
+add-settle-3 : tie.Need-add-settle-3
+add-settle-3 c = omega (arith, few-zones (countedAt (filledAt (creditedAt (servedAt (c .before .before .before .before .before .before))))))
+
+settle-requires-3 : tie.Need-settle-requires-3
+settle-requires-3 c κs =
+    let served-too = c .before .before .before .before .before .before in
+    let served = servedAt served-too in
+    let credited = creditedAt served in
+    reservable (begun (filledAt credited)) (credited .credit .ensures) (served .settle .ensures) (served-too .settle2 .ensures)
+
 in-turn-requires : tie.Need-in-turn-requires
 in-turn-requires c κs = search needs
 
 in-turn-requires-2 : tie.Need-in-turn-requires-2
 in-turn-requires-2 c κs = search needs
 
+in-turn-requires-3 : tie.Need-in-turn-requires-3
+in-turn-requires-3 c κs = search needs
+
 same-length : tie.Need-same-length
 same-length c =
-    let last = c .before .before .before .before .before .before in
-    let served = servedAt last in
+    let last = c .before .before .before .before .before .before .before in
+    let served-too = servedTooAt last in
+    let served = servedAt served-too in
     let credited = creditedAt served in
     let b = begun (filledAt credited) in
-    whole₄ b (credited .credit .ensures) (served .settle .ensures) (last .settle2 .ensures) .for-accounts ∙ sym (b .new .for-accounts)
+    whole₅ b (credited .credit .ensures) (served .settle .ensures) (served-too .settle2 .ensures) (last .settle3 .ensures) .for-accounts ∙ sym (b .new .for-accounts)
 
 same-length-2 : tie.Need-same-length-2
 same-length-2 c =
-    let last = c .before .before .before .before .before .before in
-    let served = servedAt last in
+    let last = c .before .before .before .before .before .before .before in
+    let served-too = servedTooAt last in
+    let served = servedAt served-too in
     let credited = creditedAt served in
     let b = begun (filledAt credited) in
-    whole₄ b (credited .credit .ensures) (served .settle .ensures) (last .settle2 .ensures) .for-owners ∙ sym (b .new .for-owners)
+    whole₅ b (credited .credit .ensures) (served .settle .ensures) (served-too .settle2 .ensures) (last .settle3 .ensures) .for-owners ∙ sym (b .new .for-owners)
 
 returns : tie.Need-returns
 returns c =
-    let last = c .before .before .before .before .before .before in
-    let served = servedAt last in
+    let last = c .before .before .before .before .before .before .before in
+    let served-too = servedTooAt last in
+    let served = servedAt served-too in
     let credited = creditedAt served in
     let filled = filledAt credited in
     let counted = countedAt filled in
-    month-divided (begun filled) (credited .credit .ensures) (served .settle .ensures) (last .settle2 .ensures) refl refl
-    (ap (λ k. k + 1) (counted .rows-of .ensures)) (ap (λ k. 3 * k + 2) (counted .rows-of .ensures))
-    (c .in-turn2 .ensures ∙ ap (λ r. r then last .settle2 .result) (c .before .in-turn .ensures))
+    month-divided (begun filled) (credited .credit .ensures) (served .settle .ensures) (served-too .settle2 .ensures) (last .settle3 .ensures) refl refl
+    (ap (λ k. k + 1) (counted .rows-of .ensures)) (ap (λ k. 3 * k + 2) (counted .rows-of .ensures)) (ap (λ k. 5 * k + 3) (counted .rows-of .ensures))
+    (c .in-turn3 .ensures
+    ∙ ap (λ r. r then last .settle3 .result)
+    (c .before .in-turn2 .ensures ∙ ap (λ r. r then served-too .settle2 .result) (c .before .before .in-turn .ensures)))
 
 pub divide-month-spec : {M : Type 1} → statement M
 divide-month-spec =
@@ -232,8 +282,18 @@ divide-month-spec =
     mul-settle
     add-settle-2
     settle-requires-2
+    sub-settle-5
+    part-settle-start-5
+    part-settle-end-5
+    sub-settle-6
+    part-settle-start-6
+    part-settle-end-6
+    mul-settle-2
+    add-settle-3
+    settle-requires-3
     in-turn-requires
     in-turn-requires-2
+    in-turn-requires-3
     same-length
     same-length-2
     returns)

@@ -2,9 +2,11 @@
 -- Assumes nothing.
 use mathlib.Core.Path.{refl}
 use mathlib.Core.List.{map}
+use Prim.Native.Nat.{_*_}
 use denote.Ref.{now}
 use borrow.Author.Needs.{needs}
-use Rattle.tables.specs.Shape.{tablesFrom}
+use Rattle.tables.specs.declared.Table.the-variants.{Owners}
+use Rattle.tables.specs.Shape.{limit, creditWidth, tablesFrom}
 use Rattle.columns.proofs.Blocks.{new-zeros}
 use Rattle.pool.specs.Input.{Input}
 use Rattle.settlement.specs.Steps.{monthWith}
@@ -20,7 +22,7 @@ abbrev startOf : tie.After-divide-month → tie.Start
 startOf c = c .before .before .before .before .before
 
 abbrev monthAt : tie.Start → Input
-monthAt c = monthWith (c .args .month) (c .args .nonzone) (tablesFrom (map now (c .args .tables)))
+monthAt c = monthWith (c .args .month) (c .args .head) (tablesFrom (map now (c .args .tables)))
 
 slice-aggregate-divide-month : tie.Need-slice-aggregate-divide-month
 slice-aggregate-divide-month c = search needs
@@ -29,7 +31,7 @@ slice-aggregate-divide-month-2 : tie.Need-slice-aggregate-divide-month-2
 slice-aggregate-divide-month-2 c = search needs
 
 divide-month-requires : tie.Need-divide-month-requires
-divide-month-requires c κs = (c .before .before .before .before .pre .0, record { for-accounts = refl; for-owners = refl; new = new-zeros 256 })
+divide-month-requires c κs = (c .before .before .before .before .pre .0, record { for-accounts = refl; for-owners = refl; new = new-zeros (creditWidth * limit Owners) })
 
 returns : tie.Need-returns
 returns c =

@@ -1,7 +1,9 @@
 -- `fileform::table::put_key` meets its contract: each key is the table's, and none is longer than the room.
 -- Assumes nothing.
-use Rattle.tables.specs.declared.Table.the-variants.{Zones, Owners, Units, Accounts, Loads, Reservations}
-use Rattle.fileform.proofs.Tables.{key-put}
+use mathlib.Core.Path.{ap}
+use native.Mathlib.Omega.{arith}
+use Rattle.fileform.specs.Form.{lineKey}
+use Rattle.fileform.proofs.KeyLaws.{key-put}
 use borrow.Author.Needs.{needs}
 use Rattle.fileform.proofs.table.put_key.Statement.{statement}
 use Rattle.fileform.proofs.table.put_key.Tie as tie
@@ -60,13 +62,22 @@ slice-aggregate-put-bytes-6 c = search needs
 put-bytes-requires-6 : tie.Need-put-bytes-requires-6
 put-bytes-requires-6 c κs = search needs
 
+enum-told-7 : tie.Need-enum-told-7
+enum-told-7 c = search needs
+
+slice-aggregate-put-bytes-7 : tie.Need-slice-aggregate-put-bytes-7
+slice-aggregate-put-bytes-7 c = search needs
+
+put-bytes-requires-7 : tie.Need-put-bytes-requires-7
+put-bytes-requires-7 c κs = search needs
+
 same-length : tie.Need-same-length
 same-length c = search needs
 
 returns : tie.Need-returns
 returns c =
     let told = c .before .before .before .before .before in
-    key-put {table = Zones} (told .enum-told .given .1) (told .before .before .before .pre) (c .before .before .put-bytes .ensures)
+    key-put (ap lineKey (told .enum-told .given .1)) (omega arith) (told .before .before .before .pre) (c .before .before .put-bytes .ensures)
 
 same-length-2 : tie.Need-same-length-2
 same-length-2 c = search needs
@@ -74,7 +85,7 @@ same-length-2 c = search needs
 returns-2 : tie.Need-returns-2
 returns-2 c =
     let told = c .before .before .before .before .before in
-    key-put {table = Owners} (told .enum-told2 .given .1) (told .before .before .before .pre) (c .before .before .put-bytes2 .ensures)
+    key-put (ap lineKey (told .enum-told2 .given .1)) (omega arith) (told .before .before .before .pre) (c .before .before .put-bytes2 .ensures)
 
 same-length-3 : tie.Need-same-length-3
 same-length-3 c = search needs
@@ -82,7 +93,7 @@ same-length-3 c = search needs
 returns-3 : tie.Need-returns-3
 returns-3 c =
     let told = c .before .before .before .before .before in
-    key-put {table = Units} (told .enum-told3 .given .1) (told .before .before .before .pre) (c .before .before .put-bytes3 .ensures)
+    key-put (ap lineKey (told .enum-told3 .given .1)) (omega arith) (told .before .before .before .pre) (c .before .before .put-bytes3 .ensures)
 
 same-length-4 : tie.Need-same-length-4
 same-length-4 c = search needs
@@ -90,7 +101,7 @@ same-length-4 c = search needs
 returns-4 : tie.Need-returns-4
 returns-4 c =
     let told = c .before .before .before .before .before in
-    key-put {table = Accounts} (told .enum-told4 .given .1) (told .before .before .before .pre) (c .before .before .put-bytes4 .ensures)
+    key-put (ap lineKey (told .enum-told4 .given .1)) (omega arith) (told .before .before .before .pre) (c .before .before .put-bytes4 .ensures)
 
 same-length-5 : tie.Need-same-length-5
 same-length-5 c = search needs
@@ -98,7 +109,7 @@ same-length-5 c = search needs
 returns-5 : tie.Need-returns-5
 returns-5 c =
     let told = c .before .before .before .before .before in
-    key-put {table = Loads} (told .enum-told5 .given .1) (told .before .before .before .pre) (c .before .before .put-bytes5 .ensures)
+    key-put (ap lineKey (told .enum-told5 .given .1)) (omega arith) (told .before .before .before .pre) (c .before .before .put-bytes5 .ensures)
 
 same-length-6 : tie.Need-same-length-6
 same-length-6 c = search needs
@@ -106,7 +117,15 @@ same-length-6 c = search needs
 returns-6 : tie.Need-returns-6
 returns-6 c =
     let told = c .before .before .before .before .before in
-    key-put {table = Reservations} (told .enum-told6 .given .1) (told .before .before .before .pre) (c .before .before .put-bytes6 .ensures)
+    key-put (ap lineKey (told .enum-told6 .given .1)) (omega arith) (told .before .before .before .pre) (c .before .before .put-bytes6 .ensures)
+
+same-length-7 : tie.Need-same-length-7
+same-length-7 c = search needs
+
+returns-7 : tie.Need-returns-7
+returns-7 c =
+    let told = c .before .before .before .before .before in
+    key-put (ap lineKey (told .enum-told7 .given .1)) (omega arith) (told .before .before .before .pre) (c .before .before .put-bytes7 .ensures)
 
 pub put-key-spec : {M : Type 1} → statement M
 put-key-spec =
@@ -130,6 +149,9 @@ put-key-spec =
     enum-told-6
     slice-aggregate-put-bytes-6
     put-bytes-requires-6
+    enum-told-7
+    slice-aggregate-put-bytes-7
+    put-bytes-requires-7
     same-length
     returns
     same-length-2
@@ -141,4 +163,6 @@ put-key-spec =
     same-length-5
     returns-5
     same-length-6
-    returns-6)
+    returns-6
+    same-length-7
+    returns-7)

@@ -1,185 +1,182 @@
 -- `fileread::fill::fill` meets its contract: each table's rows stand where those of the one before end.
 -- Assumes nothing.
 use mathlib.Core.Path.{_≡_}
-use Prim.Native.Nat.{ℕ}
-use lib.ListN.{getD}
+use mathlib.Core.List.{List}
+use Prim.Native.Nat.{ℕ, _*_, _≤_}
+use lib.ListN.{length, getD, drop}
 use Rattle.tables.specs.declared.Table.{Table}
-use Rattle.tables.specs.declared.Table.the-variants.{Zones, Owners, Units, Accounts, Loads, Reservations}
-use Rattle.tables.specs.Shape.{placeOf, Tables, tablesOf, wordsOf}
+use Rattle.tables.specs.declared.Table.the-variants.{Zones, Owners, Units, Accounts, Loads, Reservations, Firm}
+use Rattle.tables.specs.Shape.{placeOf, width, Tables, tablesOf, wordsOf}
 use Rattle.text.specs.Places.{stored}
-use Rattle.fileform.specs.Reading.{nth}
-use Rattle.fileread.proofs.Filling.{Standing, table-there, next-stands, table-taken, all-taken}
+use Rattle.fileform.specs.Form.{kindOf, lineOf}
+use Rattle.fileform.specs.Reading.{nth, rowLines}
+use Rattle.fileform.specs.Calls.{RowsTaken}
+use Rattle.fileread.proofs.Filling.{Standing, Took, table-there, table-took, all-taken}
 use borrow.Author.Needs.{needs}
 use Rattle.fileread.proofs.fill.fill.Statement.{statement}
 use Rattle.fileread.proofs.fill.fill.Tie as tie
 
--- the function's entry, from behind each call
+-- the lent tables
+abbrev lent : tie.Start → Tables
+lent e =
+    tablesOf (e .args .zones .now) (e .args .owners .now) (e .args .units .now) (e .args .accounts .now) (e .args .loads .now) (e .args .reservations .now) (e .args .firm .now)
+
+-- how many rows of a table there are to take
+abbrev count : tie.Start → Table → ℕ
+count e table = getD (e .args .t3) (placeOf table) 0
+
+-- from a table on, the tables stand where the call before ended
+abbrev Stand : tie.Start → ℕ → ℕ → Type 0
+Stand e place i = Standing (e .args .text .now) (e .pre .ts) (e .pre .rest) place i
+
+stand : (e : tie.Start) → Stand e 0 (e .args .body)
+stand e = record { inside = e .pre .inside; read = e .pre .read }
+
+-- what a call leaves of its table, and where the next one's rows begin
+abbrev Takes : tie.Start → Table → ℕ → List ℕ → Type 0
+Takes e table next after = Took table (e .args .text .now) (e .pre .ts) (e .pre .rest) (wordsOf (lent e) table) next after
+
+module _ (e : tie.Start) (table : Table) {i : ℕ} (stands : Stand e (placeOf table) i) where
+  there : (i ≤ length (e .args .text .now)) × (rowLines (lineOf (kindOf table)) (count e table) (drop i (e .args .text .now)) .count ≡ count e table)
+      × (count e table * width table ≤ length (wordsOf (lent e) table))
+  there = table-there table stands (count e table) (e .pre .counted table) (wordsOf (lent e) table) (e .pre .room table)
+
+  takes : (next : ℕ) (after : List ℕ)
+      → RowsTaken (e .args .text .now) (rowLines (lineOf (kindOf table)) (count e table) (drop i (e .args .text .now))) (wordsOf (lent e) table) next after
+      → Takes e table next after
+  takes = table-took table stands (count e table) (e .pre .counted table) (wordsOf (lent e) table)
+
+-- the function's entry, from behind each call, and what the call leaves
 abbrev start1 : tie.After-take-table → tie.Start
-start1 c = c .before .before .before .before .before .before .before .before .before
+start1 c = c .before .before .before .before .before .before .before .before .before .before
+
+took1 : (c : tie.After-take-table) → Takes (start1 c) Zones (c .take-table .result) (c .take-table .last .1 .1 .1 .1 .0)
+took1 c = takes (start1 c) Zones (stand (start1 c)) _ _ (c .take-table .ensures)
 
 abbrev start2 : tie.After-take-table2 → tie.Start
 start2 c = start1 (c .before .before .before .before)
 
+took2 : (c : tie.After-take-table2) → Takes (start2 c) Owners (c .take-table2 .result) (c .take-table2 .last .1 .1 .1 .1 .0)
+took2 c = takes (start2 c) Owners (took1 (c .before .before .before .before) .stands) _ _ (c .take-table2 .ensures)
+
 abbrev start3 : tie.After-take-table3 → tie.Start
 start3 c = start2 (c .before .before .before .before)
+
+took3 : (c : tie.After-take-table3) → Takes (start3 c) Units (c .take-table3 .result) (c .take-table3 .last .1 .1 .1 .1 .0)
+took3 c = takes (start3 c) Units (took2 (c .before .before .before .before) .stands) _ _ (c .take-table3 .ensures)
 
 abbrev start4 : tie.After-take-table4 → tie.Start
 start4 c = start3 (c .before .before .before .before)
 
+took4 : (c : tie.After-take-table4) → Takes (start4 c) Accounts (c .take-table4 .result) (c .take-table4 .last .1 .1 .1 .1 .0)
+took4 c = takes (start4 c) Accounts (took3 (c .before .before .before .before) .stands) _ _ (c .take-table4 .ensures)
+
 abbrev start5 : tie.After-take-table5 → tie.Start
 start5 c = start4 (c .before .before .before .before)
+
+took5 : (c : tie.After-take-table5) → Takes (start5 c) Loads (c .take-table5 .result) (c .take-table5 .last .1 .1 .1 .1 .0)
+took5 c = takes (start5 c) Loads (took4 (c .before .before .before .before) .stands) _ _ (c .take-table5 .ensures)
 
 abbrev start6 : tie.After-take-table6 → tie.Start
 start6 c = start5 (c .before .before .before .before)
 
--- how many rows of the table at a place there are to take
-abbrev count : tie.Start → ℕ → ℕ
-count e place = getD (e .args .t3) place 0
+took6 : (c : tie.After-take-table6) → Takes (start6 c) Reservations (c .take-table6 .result) (c .take-table6 .last .1 .1 .1 .1 .0)
+took6 c = takes (start6 c) Reservations (took5 (c .before .before .before .before) .stands) _ _ (c .take-table6 .ensures)
 
--- from a place on, the tables stand where the call before ended
-abbrev Stand : tie.Start → ℕ → ℕ → Type 0
-Stand e place i = Standing (e .args .text .now) (e .pre .ts) (e .pre .rest) place i
+abbrev start7 : tie.After-take-table7 → tie.Start
+start7 c = start6 (c .before .before .before .before)
 
-stand0 : (e : tie.Start) → Stand e 0 (e .args .body)
-stand0 e = record { inside = e .pre .inside; read = e .pre .read }
-
-stand1 : (c : tie.After-take-table) → Stand (start1 c) 1 (c .take-table .result)
-stand1 c =
-    next-stands Zones (stand0 (start1 c)) (count (start1 c) 0) (start1 c .pre .counted Zones) (start1 c .args .zones .now)
-    (c .take-table .result) (c .take-table .last .1 .1 .1 .1 .0) (c .take-table .ensures)
-
-stand2 : (c : tie.After-take-table2) → Stand (start2 c) 2 (c .take-table2 .result)
-stand2 c =
-    next-stands Owners (stand1 (c .before .before .before .before)) (count (start2 c) 1) (start2 c .pre .counted Owners) (start2 c .args .owners .now)
-    (c .take-table2 .result) (c .take-table2 .last .1 .1 .1 .1 .0) (c .take-table2 .ensures)
-
-stand3 : (c : tie.After-take-table3) → Stand (start3 c) 3 (c .take-table3 .result)
-stand3 c =
-    next-stands Units (stand2 (c .before .before .before .before)) (count (start3 c) 2) (start3 c .pre .counted Units) (start3 c .args .units .now)
-    (c .take-table3 .result) (c .take-table3 .last .1 .1 .1 .1 .0) (c .take-table3 .ensures)
-
-stand4 : (c : tie.After-take-table4) → Stand (start4 c) 4 (c .take-table4 .result)
-stand4 c =
-    next-stands Accounts (stand3 (c .before .before .before .before)) (count (start4 c) 3) (start4 c .pre .counted Accounts) (start4 c .args .accounts .now)
-    (c .take-table4 .result) (c .take-table4 .last .1 .1 .1 .1 .0) (c .take-table4 .ensures)
-
-stand5 : (c : tie.After-take-table5) → Stand (start5 c) 5 (c .take-table5 .result)
-stand5 c =
-    next-stands Loads (stand4 (c .before .before .before .before)) (count (start5 c) 4) (start5 c .pre .counted Loads) (start5 c .args .loads .now)
-    (c .take-table5 .result) (c .take-table5 .last .1 .1 .1 .1 .0) (c .take-table5 .ensures)
-
-taken1 : (c : tie.After-take-table) → c .take-table .last .1 .1 .1 .1 .0 ≡ stored (start1 c .args .zones .now) 0 (nth (start1 c .pre .ts) 0 .words)
-taken1 c =
-    table-taken Zones (stand0 (start1 c)) (count (start1 c) 0) (start1 c .pre .counted Zones) (start1 c .args .zones .now)
-    (c .take-table .result) (c .take-table .last .1 .1 .1 .1 .0) (c .take-table .ensures)
-
-taken2 : (c : tie.After-take-table2) → c .take-table2 .last .1 .1 .1 .1 .0 ≡ stored (start2 c .args .owners .now) 0 (nth (start2 c .pre .ts) 1 .words)
-taken2 c =
-    table-taken Owners (stand1 (c .before .before .before .before)) (count (start2 c) 1) (start2 c .pre .counted Owners) (start2 c .args .owners .now)
-    (c .take-table2 .result) (c .take-table2 .last .1 .1 .1 .1 .0) (c .take-table2 .ensures)
-
-taken3 : (c : tie.After-take-table3) → c .take-table3 .last .1 .1 .1 .1 .0 ≡ stored (start3 c .args .units .now) 0 (nth (start3 c .pre .ts) 2 .words)
-taken3 c =
-    table-taken Units (stand2 (c .before .before .before .before)) (count (start3 c) 2) (start3 c .pre .counted Units) (start3 c .args .units .now)
-    (c .take-table3 .result) (c .take-table3 .last .1 .1 .1 .1 .0) (c .take-table3 .ensures)
-
-taken4 : (c : tie.After-take-table4) → c .take-table4 .last .1 .1 .1 .1 .0 ≡ stored (start4 c .args .accounts .now) 0 (nth (start4 c .pre .ts) 3 .words)
-taken4 c =
-    table-taken Accounts (stand3 (c .before .before .before .before)) (count (start4 c) 3) (start4 c .pre .counted Accounts) (start4 c .args .accounts .now)
-    (c .take-table4 .result) (c .take-table4 .last .1 .1 .1 .1 .0) (c .take-table4 .ensures)
-
-taken5 : (c : tie.After-take-table5) → c .take-table5 .last .1 .1 .1 .1 .0 ≡ stored (start5 c .args .loads .now) 0 (nth (start5 c .pre .ts) 4 .words)
-taken5 c =
-    table-taken Loads (stand4 (c .before .before .before .before)) (count (start5 c) 4) (start5 c .pre .counted Loads) (start5 c .args .loads .now)
-    (c .take-table5 .result) (c .take-table5 .last .1 .1 .1 .1 .0) (c .take-table5 .ensures)
-
-taken6 : (c : tie.After-take-table6) → c .take-table6 .last .1 .1 .1 .1 .0 ≡ stored (start6 c .args .reservations .now) 0 (nth (start6 c .pre .ts) 5 .words)
-taken6 c =
-    table-taken Reservations (stand5 (c .before .before .before .before)) (count (start6 c) 5) (start6 c .pre .counted Reservations) (start6 c .args .reservations .now)
-    (c .take-table6 .result) (c .take-table6 .last .1 .1 .1 .1 .0) (c .take-table6 .ensures)
+took7 : (c : tie.After-take-table7) → Takes (start7 c) Firm (c .take-table7 .result) (c .take-table7 .last .1 .1 .1 .1 .0)
+took7 c = takes (start7 c) Firm (took6 (c .before .before .before .before) .stands) _ _ (c .take-table7 .ensures)
 
 -- every table, as its call leaves it
-each : (c : tie.After-slice-known12) (table : Table)
-    → wordsOf (tablesOf (c .before .before .before .before .before .before .before .before .before .before .before .before .before .before .before .before .before .before .before .before .before .before .take-table .last .1 .1 .1 .1 .0) (c .before .before .before .before .before .before .before .before .before .before .before .before .before .before .before .before .before .before .take-table2 .last .1 .1 .1 .1 .0) (c .before .before .before .before .before .before .before .before .before .before .before .before .before .before .take-table3 .last .1 .1 .1 .1 .0) (c .before .before .before .before .before .before .before .before .before .before .take-table4 .last .1 .1 .1 .1 .0) (c .before .before .before .before .before .before .take-table5 .last .1 .1 .1 .1 .0) (c .before .before .take-table6 .last .1 .1 .1 .1 .0)) table
-    ≡ stored (wordsOf (tablesOf (start6 (c .before .before) .args .zones .now) (start6 (c .before .before) .args .owners .now) (start6 (c .before .before) .args .units .now) (start6 (c .before .before) .args .accounts .now) (start6 (c .before .before) .args .loads .now) (start6 (c .before .before) .args .reservations .now)) table) 0 (nth (start6 (c .before .before) .pre .ts) (placeOf table) .words)
-each c Zones = taken1 (c .before .before .before .before .before .before .before .before .before .before .before .before .before .before .before .before .before .before .before .before .before .before)
-each c Owners = taken2 (c .before .before .before .before .before .before .before .before .before .before .before .before .before .before .before .before .before .before)
-each c Units = taken3 (c .before .before .before .before .before .before .before .before .before .before .before .before .before .before)
-each c Accounts = taken4 (c .before .before .before .before .before .before .before .before .before .before)
-each c Loads = taken5 (c .before .before .before .before .before .before)
-each c Reservations = taken6 (c .before .before)
+abbrev left : tie.After-slice-known14 → Tables
+left c =
+    tablesOf
+    (c .before .before .before .before .before .before .before .before .before .before .before .before .before .before .before .before .before .before .before .before .before .before .before .before .before .before .take-table .last .1 .1 .1 .1 .0)
+    (c .before .before .before .before .before .before .before .before .before .before .before .before .before .before .before .before .before .before .before .before .before .before .take-table2 .last .1 .1 .1 .1 .0)
+    (c .before .before .before .before .before .before .before .before .before .before .before .before .before .before .before .before .before .before .take-table3 .last .1 .1 .1 .1 .0)
+    (c .before .before .before .before .before .before .before .before .before .before .before .before .before .before .take-table4 .last .1 .1 .1 .1 .0)
+    (c .before .before .before .before .before .before .before .before .before .before .take-table5 .last .1 .1 .1 .1 .0)
+    (c .before .before .before .before .before .before .take-table6 .last .1 .1 .1 .1 .0)
+    (c .before .before .take-table7 .last .1 .1 .1 .1 .0)
+
+each : (c : tie.After-slice-known14) (table : Table) → wordsOf (left c) table ≡ stored (wordsOf (lent (start7 (c .before .before))) table) 0 (nth (start7 (c .before .before) .pre .ts) (placeOf table) .words)
+each c Zones = took1 (c .before .before .before .before .before .before .before .before .before .before .before .before .before .before .before .before .before .before .before .before .before .before .before .before .before .before) .taken
+each c Owners = took2 (c .before .before .before .before .before .before .before .before .before .before .before .before .before .before .before .before .before .before .before .before .before .before) .taken
+each c Units = took3 (c .before .before .before .before .before .before .before .before .before .before .before .before .before .before .before .before .before .before) .taken
+each c Accounts = took4 (c .before .before .before .before .before .before .before .before .before .before .before .before .before .before) .taken
+each c Loads = took5 (c .before .before .before .before .before .before .before .before .before .before) .taken
+each c Reservations = took6 (c .before .before .before .before .before .before) .taken
+each c Firm = took7 (c .before .before) .taken
 
 array-read-take-table : tie.Need-array-read-take-table
 array-read-take-table c = search needs
 
 take-table-requires : tie.Need-take-table-requires
-take-table-requires c κs =
-    let e = c .before .before .before .before .before .before .before .before in
-    table-there Zones (stand0 (c .before .before .before .before .before .before .before .before)) (count e 0) (e .pre .counted Zones) (e .args .zones .now) (e .pre .room Zones)
+take-table-requires c κs = there (c .before .before .before .before .before .before .before .before .before) Zones (stand (c .before .before .before .before .before .before .before .before .before))
 
 array-read-take-table-2 : tie.Need-array-read-take-table-2
 array-read-take-table-2 c = search needs
 
 take-table-requires-2 : tie.Need-take-table-requires-2
-take-table-requires-2 c κs =
-    let e = start1 (c .before .before .before) in
-    table-there Owners (stand1 (c .before .before .before)) (count e 1) (e .pre .counted Owners) (e .args .owners .now) (e .pre .room Owners)
+take-table-requires-2 c κs = there (start1 (c .before .before .before)) Owners (took1 (c .before .before .before) .stands)
 
 array-read-take-table-3 : tie.Need-array-read-take-table-3
 array-read-take-table-3 c = search needs
 
 take-table-requires-3 : tie.Need-take-table-requires-3
-take-table-requires-3 c κs =
-    let e = start2 (c .before .before .before) in
-    table-there Units (stand2 (c .before .before .before)) (count e 2) (e .pre .counted Units) (e .args .units .now) (e .pre .room Units)
+take-table-requires-3 c κs = there (start2 (c .before .before .before)) Units (took2 (c .before .before .before) .stands)
 
 array-read-take-table-4 : tie.Need-array-read-take-table-4
 array-read-take-table-4 c = search needs
 
 take-table-requires-4 : tie.Need-take-table-requires-4
-take-table-requires-4 c κs =
-    let e = start3 (c .before .before .before) in
-    table-there Accounts (stand3 (c .before .before .before)) (count e 3) (e .pre .counted Accounts) (e .args .accounts .now) (e .pre .room Accounts)
+take-table-requires-4 c κs = there (start3 (c .before .before .before)) Accounts (took3 (c .before .before .before) .stands)
 
 array-read-take-table-5 : tie.Need-array-read-take-table-5
 array-read-take-table-5 c = search needs
 
 take-table-requires-5 : tie.Need-take-table-requires-5
-take-table-requires-5 c κs =
-    let e = start4 (c .before .before .before) in
-    table-there Loads (stand4 (c .before .before .before)) (count e 4) (e .pre .counted Loads) (e .args .loads .now) (e .pre .room Loads)
+take-table-requires-5 c κs = there (start4 (c .before .before .before)) Loads (took4 (c .before .before .before) .stands)
 
 array-read-take-table-6 : tie.Need-array-read-take-table-6
 array-read-take-table-6 c = search needs
 
 take-table-requires-6 : tie.Need-take-table-requires-6
-take-table-requires-6 c κs =
-    let e = start5 (c .before .before .before) in
-    table-there Reservations (stand5 (c .before .before .before)) (count e 5) (e .pre .counted Reservations) (e .args .reservations .now) (e .pre .room Reservations)
+take-table-requires-6 c κs = there (start5 (c .before .before .before)) Reservations (took5 (c .before .before .before) .stands)
+
+array-read-take-table-7 : tie.Need-array-read-take-table-7
+array-read-take-table-7 c = search needs
+
+take-table-requires-7 : tie.Need-take-table-requires-7
+take-table-requires-7 c κs = there (start6 (c .before .before .before)) Firm (took6 (c .before .before .before) .stands)
 
 same-length : tie.Need-same-length
-same-length c = c .before .before .before .before .before .before .before .before .before .before .before .before .before .before .before .before .before .before .before .before .before .before .take-table .kept .1 .1 .1 .1 .0
+same-length c = c .before .before .before .before .before .before .before .before .before .before .before .before .before .before .before .before .before .before .before .before .before .before .before .before .before .before .take-table .kept .1 .1 .1 .1 .0
 
 same-length-2 : tie.Need-same-length-2
-same-length-2 c = c .before .before .before .before .before .before .before .before .before .before .before .before .before .before .before .before .before .before .take-table2 .kept .1 .1 .1 .1 .0
+same-length-2 c = c .before .before .before .before .before .before .before .before .before .before .before .before .before .before .before .before .before .before .before .before .before .before .take-table2 .kept .1 .1 .1 .1 .0
 
 same-length-3 : tie.Need-same-length-3
-same-length-3 c = c .before .before .before .before .before .before .before .before .before .before .before .before .before .before .take-table3 .kept .1 .1 .1 .1 .0
+same-length-3 c = c .before .before .before .before .before .before .before .before .before .before .before .before .before .before .before .before .before .before .take-table3 .kept .1 .1 .1 .1 .0
 
 same-length-4 : tie.Need-same-length-4
-same-length-4 c = c .before .before .before .before .before .before .before .before .before .before .take-table4 .kept .1 .1 .1 .1 .0
+same-length-4 c = c .before .before .before .before .before .before .before .before .before .before .before .before .before .before .take-table4 .kept .1 .1 .1 .1 .0
 
 same-length-5 : tie.Need-same-length-5
-same-length-5 c = c .before .before .before .before .before .before .take-table5 .kept .1 .1 .1 .1 .0
+same-length-5 c = c .before .before .before .before .before .before .before .before .before .before .take-table5 .kept .1 .1 .1 .1 .0
 
 same-length-6 : tie.Need-same-length-6
-same-length-6 c = c .before .before .take-table6 .kept .1 .1 .1 .1 .0
+same-length-6 c = c .before .before .before .before .before .before .take-table6 .kept .1 .1 .1 .1 .0
+
+same-length-7 : tie.Need-same-length-7
+same-length-7 c = c .before .before .take-table7 .kept .1 .1 .1 .1 .0
 
 returns : tie.Need-returns
 returns c =
-    let e = start6 (c .before .before) in
-    let lent : Tables = tablesOf (e .args .zones .now) (e .args .owners .now) (e .args .units .now) (e .args .accounts .now) (e .args .loads .now) (e .args .reservations .now) in
-    all-taken (e .args .text .now) (e .args .body) lent _ (e .pre .ts) (e .pre .rest) (stand0 e) (each c)
+    let e = start7 (c .before .before) in
+    all-taken (e .args .text .now) (e .args .body) (lent e) (left c) (e .pre .ts) (e .pre .rest) (stand e) (each c)
 
 pub fill-spec : {M : Type 1} → statement M
 fill-spec =
@@ -197,10 +194,13 @@ fill-spec =
     take-table-requires-5
     array-read-take-table-6
     take-table-requires-6
+    array-read-take-table-7
+    take-table-requires-7
     same-length
     same-length-2
     same-length-3
     same-length-4
     same-length-5
     same-length-6
+    same-length-7
     returns)

@@ -25,18 +25,33 @@ shared-slice-read-t18 c = search needs
 shared-slice-read-t21 : tie.Need-shared-slice-read-t21
 shared-slice-read-t21 c = search needs
 
+shared-slice-read-t24 : tie.Need-shared-slice-read-t24
+shared-slice-read-t24 c = search needs
+
 shared-slice-read-t6-2 : tie.Need-shared-slice-read-t6-2
 shared-slice-read-t6-2 c = search needs
 
 shared-slice-read-t9-2 : tie.Need-shared-slice-read-t9-2
 shared-slice-read-t9-2 c = search needs
 
+shared-slice-read-t24-2 : tie.Need-shared-slice-read-t24-2
+shared-slice-read-t24-2 c = search needs
+
+shared-slice-read-t12-2 : tie.Need-shared-slice-read-t12-2
+shared-slice-read-t12-2 c = search needs
+
 shared-slice-read-t21-2 : tie.Need-shared-slice-read-t21-2
 shared-slice-read-t21-2 c = search needs
 
+shared-slice-read-t15-2 : tie.Need-shared-slice-read-t15-2
+shared-slice-read-t15-2 c = search needs
+
+shared-slice-read-t18-2 : tie.Need-shared-slice-read-t18-2
+shared-slice-read-t18-2 c = search needs
+
 returns : tie.Need-returns
 returns c =
-    let e = c .before .before .before .before .before .before .before .before .before in
+    let e = c .before .before .before .before .before .before .before .before .before .before .before .before .before .before in
     ap (readingOf (e .args .answer) (e .args .head .now)) (by-places 0 (e .args .counts .now) (e .pre .1))
 
 pub found-spec : {M : Type 1} → statement M
@@ -49,7 +64,12 @@ found-spec =
     shared-slice-read-t15
     shared-slice-read-t18
     shared-slice-read-t21
+    shared-slice-read-t24
     shared-slice-read-t6-2
     shared-slice-read-t9-2
+    shared-slice-read-t24-2
+    shared-slice-read-t12-2
     shared-slice-read-t21-2
+    shared-slice-read-t15-2
+    shared-slice-read-t18-2
     returns)

@@ -1,7 +1,9 @@
 -- `fileread::judge::judge_text` meets its contract.
 -- Assumes nothing.
 use mathlib.Core.Path.{refl}
-use mathlib.Core.List.{[], _∷_}
+use lib.ListN.{replicate}
+use Rattle.tables.specs.Shape.{tableCount}
+use Rattle.fileform.specs.Form.{headCount}
 use Rattle.fileread.proofs.Judging.{judged-heads, judged-tables, judged-whole}
 use borrow.Author.Needs.{needs}
 use Rattle.fileread.proofs.judge.judge_text.Statement.{statement}
@@ -18,7 +20,7 @@ stopped-requires c κs = search needs
 
 returns : tie.Need-returns
 returns c =
-    judged-heads (c .before .before .before .before .before .before .before .before .args .text .now) (0 ∷ 0 ∷ 0 ∷ []) (c .before .before .before .before .before .judge-heads .result) (c .before .before .before .before .before .judge-heads .last .1 .0) (c .before .before .before .before .before .judge-heads .ensures)
+    judged-heads (c .before .before .before .before .before .before .before .before .args .text .now) (replicate headCount 0) (c .before .before .before .before .before .judge-heads .result) (c .before .before .before .before .before .judge-heads .last .1 .0) (c .before .before .before .before .before .judge-heads .ensures)
     (c .before .if1 .taken) (c .stopped .result .held) (c .stopped .result .body) (c .stopped .ensures)
 
 slice-aggregate-judge-tables : tie.Need-slice-aggregate-judge-tables
@@ -32,8 +34,8 @@ stopped-requires-2 c κs = search needs
 
 returns-2 : tie.Need-returns-2
 returns-2 c =
-    judged-tables (c .before .before .before .before .before .before .before .before .before .before .before .before .before .before .args .text .now) (0 ∷ 0 ∷ 0 ∷ []) (c .before .before .before .before .before .before .before .before .before .before .before .judge-heads .result) (c .before .before .before .before .before .before .before .before .before .before .before .judge-heads .last .1 .0) (c .before .before .before .before .before .before .before .before .before .before .before .judge-heads .ensures)
-    (c .before .before .before .before .before .before .before .if1 .left) (0 ∷ 0 ∷ 0 ∷ 0 ∷ 0 ∷ 0 ∷ []) (c .before .before .before .before .before .judge-tables .result) (c .before .before .before .before .before .judge-tables .last .1 .1 .0) (c .before .before .before .before .before .judge-tables .ensures)
+    judged-tables (c .before .before .before .before .before .before .before .before .before .before .before .before .before .before .args .text .now) (replicate headCount 0) (c .before .before .before .before .before .before .before .before .before .before .before .judge-heads .result) (c .before .before .before .before .before .before .before .before .before .before .before .judge-heads .last .1 .0) (c .before .before .before .before .before .before .before .before .before .before .before .judge-heads .ensures)
+    (c .before .before .before .before .before .before .before .if1 .left) (replicate tableCount 0) (c .before .before .before .before .before .judge-tables .result) (c .before .before .before .before .before .judge-tables .last .1 .1 .0) (c .before .before .before .before .before .judge-tables .ensures)
     (c .before .if2 .taken) (c .stopped2 .result .held) (c .stopped2 .result .body) (c .stopped2 .ensures)
 
 slice-aggregate-sum-capped : tie.Need-slice-aggregate-sum-capped
@@ -58,8 +60,8 @@ found-requires c κs =
 
 returns-3 : tie.Need-returns-3
 returns-3 c =
-    judged-whole (c .before .before .before .before .before .before .before .before .before .before .before .before .before .before .before .before .before .before .before .args .text .now) (0 ∷ 0 ∷ 0 ∷ []) (c .before .before .before .before .before .before .before .before .before .before .before .before .before .before .before .before .judge-heads .result) (c .before .before .before .before .before .before .before .before .before .before .before .before .before .before .before .before .judge-heads .last .1 .0) (c .before .before .before .before .before .before .before .before .before .before .before .before .before .before .before .before .judge-heads .ensures)
-    (c .before .before .before .before .before .before .before .before .before .before .before .before .if1 .left) (0 ∷ 0 ∷ 0 ∷ 0 ∷ 0 ∷ 0 ∷ []) (c .before .before .before .before .before .before .before .before .before .before .judge-tables .result) (c .before .before .before .before .before .before .before .before .before .before .judge-tables .last .1 .1 .0) (c .before .before .before .before .before .before .before .before .before .before .judge-tables .ensures)
+    judged-whole (c .before .before .before .before .before .before .before .before .before .before .before .before .before .before .before .before .before .before .before .args .text .now) (replicate headCount 0) (c .before .before .before .before .before .before .before .before .before .before .before .before .before .before .before .before .judge-heads .result) (c .before .before .before .before .before .before .before .before .before .before .before .before .before .before .before .before .judge-heads .last .1 .0) (c .before .before .before .before .before .before .before .before .before .before .before .before .before .before .before .before .judge-heads .ensures)
+    (c .before .before .before .before .before .before .before .before .before .before .before .before .if1 .left) (replicate tableCount 0) (c .before .before .before .before .before .before .before .before .before .before .judge-tables .result) (c .before .before .before .before .before .before .before .before .before .before .judge-tables .last .1 .1 .0) (c .before .before .before .before .before .before .before .before .before .before .judge-tables .ensures)
     (c .before .before .before .before .before .before .if2 .left) refl (c .before .before .before .before .sum-capped .result) (c .before .before .before .before .sum-capped .ensures) (c .before .before .before .judge-end .result) (c .before .before .before .judge-end .ensures)
     refl (c .found .result) (c .found .ensures)
 

@@ -1,57 +1,67 @@
--- `filewrite::put::heads_size` meets its contract.
+-- `filewrite::put::heads_size` meets its contract: what is left from a line on is measured behind the lines before.
 -- Assumes nothing.
+use mathlib.Core.Path.{subst}
+use Prim.Native.Nat.{_-_}
 use native.Mathlib.Omega.{arith}
-use Rattle.text.proofs.Stores.{sized-most}
-use Rattle.filewrite.proofs.Pieces.{monthLine, daysLine, nonzoneLine, heads-pieces, three-sized}
+use Rattle.text.specs.Places.{Sized}
+use Rattle.fileform.specs.Form.{headCount}
+use Rattle.filewrite.proofs.Pieces.{Measuring, measure-start, measure-next, measure-end, headsFrom, head-piece, heads-end}
 use borrow.Author.Needs.{needs}
 use Rattle.filewrite.proofs.put.heads_size.Statement.{statement}
 use Rattle.filewrite.proofs.put.heads_size.Tie as tie
 
-slice-aggregate-line-size : tie.Need-slice-aggregate-line-size
-slice-aggregate-line-size c = search needs
+abbrev Inv-loop : tie.InvT-loop
+Inv-loop cap numbers size₀ k₀ size k = Measuring (headsFrom numbers) headCount 0 cap size k
 
-slice-aggregate-line-size-2 : tie.Need-slice-aggregate-line-size-2
-slice-aggregate-line-size-2 c = search needs
+abbrev μ-loop : tie.MeasureT-loop
+μ-loop cap numbers size₀ k₀ size k = headCount - k
 
-line-size-requires : tie.Need-line-size-requires
-line-size-requires c κs = search needs
+numbers-of-requires : tie.Need-numbers-of-requires Inv-loop μ-loop
+numbers-of-requires c κs = search needs
 
-slice-aggregate-line-size-3 : tie.Need-slice-aggregate-line-size-3
-slice-aggregate-line-size-3 c = search needs
+loop-holds : tie.Need-loop-holds Inv-loop μ-loop
+loop-holds c = measure-start _ headCount 0 _ (omega arith)
 
-slice-aggregate-line-size-4 : tie.Need-slice-aggregate-line-size-4
-slice-aggregate-line-size-4 c = search needs
+mul-head-size : tie.Need-mul-head-size Inv-loop μ-loop
+mul-head-size c = search needs
 
-line-size-requires-2 : tie.Need-line-size-requires-2
-line-size-requires-2 c κs = (omega arith, sized-most _ _ _ (c .before .before .line-size .result) (c .before .before .line-size .ensures))
+array-read-head-size : tie.Need-array-read-head-size Inv-loop μ-loop
+array-read-head-size c = search needs
 
-slice-aggregate-line-size-5 : tie.Need-slice-aggregate-line-size-5
-slice-aggregate-line-size-5 c = search needs
+head-size-requires : tie.Need-head-size-requires Inv-loop μ-loop
+head-size-requires c κs = search needs
 
-slice-aggregate-line-size-6 : tie.Need-slice-aggregate-line-size-6
-slice-aggregate-line-size-6 c = search needs
+add-k : tie.Need-add-k Inv-loop μ-loop
+add-k c = search needs
 
-line-size-requires-3 : tie.Need-line-size-requires-3
-line-size-requires-3 c κs = (omega arith, sized-most _ _ _ (c .before .before .line-size2 .result) (c .before .before .line-size2 .ensures))
+loop-less : tie.Need-loop-less Inv-loop μ-loop
+loop-less c = search needs
 
-returns : tie.Need-returns
+loop-again : tie.Need-loop-again Inv-loop μ-loop
+loop-again c =
+    let l = c .before .before in
+    measure-next (l .loop .inv) (c .before .loop-test .taken)
+    (head-piece (l .before .numbers-of .result) (l .loop .k) (c .before .loop-test .taken)) (c .head-size .result) (c .head-size .ensures)
+
+returns : tie.Need-returns Inv-loop μ-loop
 returns c =
-    let a = c .before .before .before .before .before .before .before .before .before .args in
-    let first = c .before .before .before .before .before .before .line-size in
-    let second = c .before .before .before .line-size2 in
-    three-sized (monthLine (a .head)) (daysLine (a .head)) (nonzoneLine (a .head)) _ (heads-pieces (a .head)) (a .cap) (first .result) (second .result) (c .line-size3 .result) (first .ensures) (second .ensures) (c .line-size3 .ensures)
+    let l = c .before in
+    let numbers = l .before .numbers-of in
+    subst (λ ns. Sized 0 (headsFrom ns 0) (l .before .before .args .cap) (l .loop .size)) (numbers .ensures)
+    (measure-end (l .loop .inv) (heads-end (numbers .result) (l .loop .k) (c .loop-test .left)))
 
 pub heads-size-spec : {M : Type 1} → statement M
 heads-size-spec =
     tie.close
     (tie.spec
-    slice-aggregate-line-size
-    slice-aggregate-line-size-2
-    line-size-requires
-    slice-aggregate-line-size-3
-    slice-aggregate-line-size-4
-    line-size-requires-2
-    slice-aggregate-line-size-5
-    slice-aggregate-line-size-6
-    line-size-requires-3
+    Inv-loop
+    μ-loop
+    numbers-of-requires
+    loop-holds
+    mul-head-size
+    array-read-head-size
+    head-size-requires
+    add-k
+    loop-less
+    loop-again
     returns)

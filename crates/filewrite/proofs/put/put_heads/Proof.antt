@@ -1,80 +1,81 @@
--- `filewrite::put::put_heads` meets its contract.
+-- `filewrite::put::put_heads` meets its contract: what is left from a line on is written behind the lines before.
 -- Assumes nothing.
-use mathlib.Core.Path.{_≡_, _∙_}
-use Prim.Native.Nat.{_+_}
+use mathlib.Core.Path.{sym, subst}
+use Prim.Native.Nat.{_+_, _-_, _≤_}
 use lib.ListN.{length}
-use native.Mathlib.Omega.{arith}
-use Rattle.filewrite.proofs.Pieces.{monthLine, daysLine, nonzoneLine, headsOf, heads-pieces, three-length, three-put}
+use Rattle.text.specs.Places.{PutAt}
+use Rattle.fileform.specs.Form.{headCount}
+use Rattle.filewrite.proofs.Pieces.{Putting, putting-start, putting-fits, putting-next, putting-end, headsFrom, head-piece, heads-end}
 use borrow.Author.Needs.{needs}
 use Rattle.filewrite.proofs.put.put_heads.Statement.{statement}
 use Rattle.filewrite.proofs.put.put_heads.Tie as tie
 
-slice-aggregate-put-line : tie.Need-slice-aggregate-put-line
-slice-aggregate-put-line c = search needs
+abbrev Inv-loop : tie.InvT-loop
+Inv-loop out₀ numbers i₀ k₀ out i k = Putting (headsFrom numbers) headCount out₀ 0 out i k
 
-slice-aggregate-put-line-2 : tie.Need-slice-aggregate-put-line-2
-slice-aggregate-put-line-2 c = search needs
+abbrev μ-loop : tie.MeasureT-loop
+μ-loop out₀ numbers i₀ k₀ out i k = headCount - k
 
-lines : (e : tie.Start)
-    → length (headsOf (e .args .head)) ≡ length (monthLine (e .args .head)) + (length (daysLine (e .args .head)) + length (nonzoneLine (e .args .head)))
-lines e =
-    let h = e .args .head in
-    three-length (monthLine h) (daysLine h) (nonzoneLine h) (headsOf h) (heads-pieces h)
+numbers-of-requires : tie.Need-numbers-of-requires Inv-loop μ-loop
+numbers-of-requires c κs = search needs
 
-put-line-requires : tie.Need-put-line-requires
-put-line-requires c κs =
-    let e = c .before .before .before .before in
-    (omega arith, omega (arith, lines e, e .pre))
+loop-holds : tie.Need-loop-holds Inv-loop μ-loop
+loop-holds c =
+    let e = c .before .before in
+    putting-start (headsFrom (c .numbers-of .result)) headCount (e .args .out .now) 0
+    (subst (λ ns. 0 + length (headsFrom ns 0) ≤ length (e .args .out .now)) (sym (c .numbers-of .ensures)) (e .pre))
 
-slice-aggregate-put-line-3 : tie.Need-slice-aggregate-put-line-3
-slice-aggregate-put-line-3 c = search needs
+mul-put-head : tie.Need-mul-put-head Inv-loop μ-loop
+mul-put-head c = search needs
 
-slice-aggregate-put-line-4 : tie.Need-slice-aggregate-put-line-4
-slice-aggregate-put-line-4 c = search needs
+array-read-put-head : tie.Need-array-read-put-head Inv-loop μ-loop
+array-read-put-head c = search needs
 
-put-line-requires-2 : tie.Need-put-line-requires-2
-put-line-requires-2 c κs =
-    let e = c .before .before .before .before .before .before .before .before .before .before in
-    let first = c .before .before .before .before .before .put-line in
-    (omega arith, omega (arith, lines e, e .pre, first .ensures .onward, first .kept .1 .1 .1 .1 .0))
+put-head-requires : tie.Need-put-head-requires Inv-loop μ-loop
+put-head-requires c κs =
+    let l = c .before .before in
+    let numbers = l .before .numbers-of .result in
+    let there = c .before .loop-test .taken in
+    (there, putting-fits (l .loop .inv) (head-piece numbers (l .loop .k) there))
 
-slice-aggregate-put-line-5 : tie.Need-slice-aggregate-put-line-5
-slice-aggregate-put-line-5 c = search needs
+add-k : tie.Need-add-k Inv-loop μ-loop
+add-k c = search needs
 
-slice-aggregate-put-line-6 : tie.Need-slice-aggregate-put-line-6
-slice-aggregate-put-line-6 c = search needs
+loop-less : tie.Need-loop-less Inv-loop μ-loop
+loop-less c = search needs
 
-put-line-requires-3 : tie.Need-put-line-requires-3
-put-line-requires-3 c κs =
-    let e = c .before .before .before .before .before .before .before .before .before .before .before .before .before .before .before .before in
-    let first = c .before .before .before .before .before .before .before .before .before .before .before .put-line in
-    let second = c .before .before .before .before .before .put-line2 in
-    (omega arith, omega (arith, lines e, e .pre, first .ensures .onward, first .kept .1 .1 .1 .1 .0, second .ensures .onward, second .kept .1 .1 .1 .1 .0))
+loop-again : tie.Need-loop-again Inv-loop μ-loop
+loop-again c =
+    let l = c .before .before .before .before .before in
+    let numbers = l .before .numbers-of .result in
+    let there = c .before .before .before .before .loop-test .taken in
+    let t = c .before .before .put-head in
+    putting-next (l .loop .inv) (head-piece numbers (l .loop .k) there) there (t .result) _ (t .ensures) (t .kept .1 .1 .0)
 
-same-length : tie.Need-same-length
-same-length c = c .before .before .put-line3 .kept .1 .1 .1 .1 .0 ∙ c .before .before .before .before .before .before .before .before .put-line2 .kept .1 .1 .1 .1 .0 ∙ c .before .before .before .before .before .before .before .before .before .before .before .before .before .before .put-line .kept .1 .1 .1 .1 .0
+same-length : tie.Need-same-length Inv-loop μ-loop
+same-length c = c .before .loop .inv .same
 
-returns : tie.Need-returns
+returns : tie.Need-returns Inv-loop μ-loop
 returns c =
-    let e = c .before .before .before .before .before .before .before .before .before .before .before .before .before .before .before .before .before .before .before in
-    let first = c .before .before .before .before .before .before .before .before .before .before .before .before .before .before .put-line in
-    let second = c .before .before .before .before .before .before .before .before .put-line2 in
-    let third = c .before .before .put-line3 in
-    three-put (monthLine (e .args .head)) (daysLine (e .args .head)) (nonzoneLine (e .args .head)) (headsOf (e .args .head)) (heads-pieces (e .args .head)) (e .args .out .now) (first .result) (second .result) (third .result) (first .last .1 .1 .1 .1 .0) (second .last .1 .1 .1 .1 .0)
-    (third .last .1 .1 .1 .1 .0) (first .ensures) (second .ensures) (third .ensures)
+    let l = c .before in
+    let numbers = l .before .numbers-of in
+    let out = l .before .before .before .args .out .now in
+    subst (λ ns. PutAt out 0 (headsFrom ns 0) (l .loop .i) (l .loop .out)) (numbers .ensures)
+    (putting-end (l .loop .inv) (heads-end (numbers .result) (l .loop .k) (c .loop-test .left)))
 
 pub put-heads-spec : {M : Type 1} → statement M
 put-heads-spec =
     tie.close
     (tie.spec
-    slice-aggregate-put-line
-    slice-aggregate-put-line-2
-    put-line-requires
-    slice-aggregate-put-line-3
-    slice-aggregate-put-line-4
-    put-line-requires-2
-    slice-aggregate-put-line-5
-    slice-aggregate-put-line-6
-    put-line-requires-3
+    Inv-loop
+    μ-loop
+    numbers-of-requires
+    loop-holds
+    mul-put-head
+    array-read-put-head
+    put-head-requires
+    add-k
+    loop-less
+    loop-again
     same-length
     returns)

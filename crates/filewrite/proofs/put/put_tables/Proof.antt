@@ -1,29 +1,24 @@
 -- `filewrite::put::put_tables` meets its contract: what is left from a table on is written behind the tables before.
 -- Assumes nothing.
-use mathlib.Core.Path.{_≡_, refl, sym, _∙_}
-use mathlib.Core.List.{List, [], map}
-use Prim.Native.Nat.{ℕ, _+_, _-_, _≤_}
-use native.Mathlib.Omega.{arith}
-use lib.ListN.{length, List·getD-map}
+use mathlib.Core.Path.{sym}
+use mathlib.Core.List.{[], map}
+use Prim.Native.Nat.{_-_}
+use lib.ListN.{List·getD-map}
 use denote.Ref.{now}
 use Rattle.tables.specs.Shape.{tableCount, tablesFrom}
-use Rattle.text.specs.Places.{PutAt}
-use Rattle.filewrite.proofs.Pieces.{textFrom, put-next, put-end, length-next}
+use Rattle.filewrite.proofs.Pieces.{Putting, putting-start, putting-fits, putting-next, putting-end, textFrom, table-piece, tables-end}
 use borrow.Author.Needs.{needs}
 use Rattle.filewrite.proofs.put.put_tables.Statement.{statement}
 use Rattle.filewrite.proofs.put.put_tables.Tie as tie
 
 abbrev Inv-loop : tie.InvT-loop
-Inv-loop t1 out₀ at tables i₀ k₀ out i k =
-    (k ≤ tableCount) × (i + length (textFrom (tablesFrom (map now tables)) k) ≤ length out) × (length out ≡ length out₀)
-    × ((m : ℕ) (after : List ℕ) → PutAt out i (textFrom (tablesFrom (map now tables)) k) m after
-    → PutAt out₀ at (textFrom (tablesFrom (map now tables)) 0) m after)
+Inv-loop t1 out₀ at tables i₀ k₀ out i k = Putting (textFrom (tablesFrom (map now tables))) tableCount out₀ at out i k
 
 abbrev μ-loop : tie.MeasureT-loop
 μ-loop t1 out₀ at tables i₀ k₀ out i k = tableCount - k
 
 loop-holds : tie.Need-loop-holds Inv-loop μ-loop
-loop-holds c = (omega arith, c .before .pre, refl, λ m after e. e)
+loop-holds c = putting-start _ tableCount _ _ (c .before .pre)
 
 mul-words : tie.Need-mul-words Inv-loop μ-loop
 mul-words c = search needs
@@ -38,12 +33,9 @@ put-table-requires : tie.Need-put-table-requires Inv-loop μ-loop
 put-table-requires c κs =
     let l = c .before .before .before .before in
     let a = l .before .before .args in
-    omega (
-      arith,
-      length-next (map now (a .t1)) (l .loop .k) (c .before .before .before .loop-test .taken) (c .before .table-at .result) _ (c .before .table-at .ensures)
-          (sym (List·getD-map now (a .t1) (l .loop .k) (record { ptr = (0, 0); name = 0; now = [] }))),
-      l .loop .inv .1,
-    )
+    let called = c .before .table-at in
+    let held = sym (List·getD-map now (a .t1) (l .loop .k) (record { ptr = (0, 0); name = 0; now = [] })) in
+    putting-fits (l .loop .inv) (table-piece (map now (a .t1)) (l .loop .k) (c .before .before .before .loop-test .taken) (called .result) _ (called .ensures) held)
 
 add-k : tie.Need-add-k Inv-loop μ-loop
 add-k c = search needs
@@ -56,25 +48,17 @@ loop-again c =
     let l = c .before .before .before .before .before .before .before in
     let a = l .before .before .args in
     let t = c .before .before .put-table in
+    let there = c .before .before .before .before .before .before .loop-test .taken in
     let called = c .before .before .before .before .table-at in
     let held = sym (List·getD-map now (a .t1) (l .loop .k) (record { ptr = (0, 0); name = 0; now = [] })) in
-    let after = t .last .1 .1 .0 in (
-      omega arith,
-      omega (arith, length-next (map now (a .t1)) (l .loop .k) (c .before .before .before .before .before .before .loop-test .taken) (called .result) _ (called .ensures) held, l .loop .inv .1, t .kept .1 .1 .0, t .ensures .onward),
-      t .kept .1 .1 .0 ∙ l .loop .inv .2,
-      λ m last e.
-          l .loop .inv .3 m last
-          (put-next (map now (a .t1)) (l .loop .k) (c .before .before .before .before .before .before .loop-test .taken) (called .result) _ (called .ensures) held (l .loop .out) (l .loop .i) (t .result) m after last (t .ensures) e),
-    )
+    putting-next (l .loop .inv) (table-piece (map now (a .t1)) (l .loop .k) there (called .result) _ (called .ensures) held) there (t .result) _ (t .ensures) (t .kept .1 .1 .0)
 
 same-length : tie.Need-same-length Inv-loop μ-loop
-same-length c = c .before .loop .inv .2
+same-length c = c .before .loop .inv .same
 
 returns : tie.Need-returns Inv-loop μ-loop
 returns c =
-    let l = c .before in
-    let a = l .before .before .args in
-    l .loop .inv .3 (l .loop .i) (l .loop .out) (put-end (tablesFrom (map now (a .t1))) (l .loop .k) (l .loop .out) (l .loop .i) (c .loop-test .left))
+    putting-end (c .before .loop .inv) (tables-end (tablesFrom (map now (c .before .before .before .args .t1))) (c .before .loop .k) (c .loop-test .left))
 
 pub put-tables-spec : {M : Type 1} → statement M
 put-tables-spec =

@@ -2,28 +2,23 @@
 -- Assumes nothing.
 use mathlib.Core.Path.{sym}
 use mathlib.Core.List.{[], map}
-use Prim.Native.Nat.{ℕ, _-_, _≤_}
-use native.Mathlib.Omega.{arith}
+use Prim.Native.Nat.{_-_}
 use lib.ListN.{List·getD-map}
 use denote.Ref.{now}
 use Rattle.tables.specs.Shape.{tableCount, tablesFrom}
-use Rattle.text.specs.Places.{Sized}
-use Rattle.text.proofs.Stores.{sized-most}
-use Rattle.filewrite.proofs.Pieces.{textFrom, size-next, size-end}
+use Rattle.filewrite.proofs.Pieces.{Measuring, measure-start, measure-next, measure-end, textFrom, table-piece, tables-end}
 use borrow.Author.Needs.{needs}
 use Rattle.filewrite.proofs.put.tables_size.Statement.{statement}
 use Rattle.filewrite.proofs.put.tables_size.Tie as tie
 
 abbrev Inv-loop : tie.InvT-loop
-Inv-loop t1 before cap tables size₀ k₀ size k =
-    (k ≤ tableCount) × (size ≤ cap)
-    × ((m : ℕ) → Sized size (textFrom (tablesFrom (map now tables)) k) cap m → Sized before (textFrom (tablesFrom (map now tables)) 0) cap m)
+Inv-loop t1 before cap tables size₀ k₀ size k = Measuring (textFrom (tablesFrom (map now tables))) tableCount before cap size k
 
 abbrev μ-loop : tie.MeasureT-loop
 μ-loop t1 before cap tables size₀ k₀ size k = tableCount - k
 
 loop-holds : tie.Need-loop-holds Inv-loop μ-loop
-loop-holds c = (omega arith, c .pre, λ m e. e)
+loop-holds c = measure-start _ tableCount _ _ (c .pre)
 
 mul-words : tie.Need-mul-words Inv-loop μ-loop
 mul-words c = search needs
@@ -35,7 +30,7 @@ table-at-requires : tie.Need-table-at-requires Inv-loop μ-loop
 table-at-requires c κs = search needs
 
 table-size-requires : tie.Need-table-size-requires Inv-loop μ-loop
-table-size-requires c κs = c .before .before .before .loop .inv .1
+table-size-requires c κs = c .before .before .before .loop .inv .capped
 
 add-k : tie.Need-add-k Inv-loop μ-loop
 add-k c = search needs
@@ -47,20 +42,14 @@ loop-again : tie.Need-loop-again Inv-loop μ-loop
 loop-again c =
     let l = c .before .before .before .before in
     let a = l .before .args in
-    let t = c .table-size in (
-      omega arith,
-      sized-most (l .loop .size) _ (a .cap) (t .result) (t .ensures),
-      λ m e.
-          l .loop .inv .2 m
-          (size-next (map now (a .t1)) (l .loop .k) (c .before .before .before .loop-test .taken) (c .before .table-at .result) _ (c .before .table-at .ensures)
-          (sym (List·getD-map now (a .t1) (l .loop .k) (record { ptr = (0, 0); name = 0; now = [] }))) (l .loop .size) (a .cap) (t .result) m (t .ensures) e),
-    )
+    let there = c .before .before .before .loop-test .taken in
+    let called = c .before .table-at in
+    let held = sym (List·getD-map now (a .t1) (l .loop .k) (record { ptr = (0, 0); name = 0; now = [] })) in
+    measure-next (l .loop .inv) there (table-piece (map now (a .t1)) (l .loop .k) there (called .result) _ (called .ensures) held) (c .table-size .result) (c .table-size .ensures)
 
 returns : tie.Need-returns Inv-loop μ-loop
 returns c =
-    let l = c .before in
-    let a = l .before .args in
-    l .loop .inv .2 (l .loop .size) (size-end (tablesFrom (map now (a .t1))) (l .loop .k) (l .loop .size) (a .cap) (c .loop-test .left) (l .loop .inv .1))
+    measure-end (c .before .loop .inv) (tables-end (tablesFrom (map now (c .before .before .args .t1))) (c .before .loop .k) (c .loop-test .left))
 
 pub tables-size-spec : {M : Type 1} → statement M
 tables-size-spec =

@@ -5,8 +5,8 @@ use borrow.Author.Needs.{needs}
 use Rattle.judgement.proofs.turns.judge_head.Statement.{statement}
 use Rattle.judgement.proofs.turns.judge_head.Tie as tie
 
-outside-requires : tie.Need-outside-requires
-outside-requires c κs = search needs
+head-outside-requires : tie.Need-head-outside-requires
+head-outside-requires c κs = search needs
 
 look-requires : tie.Need-look-requires
 look-requires c κs = search needs
@@ -24,15 +24,10 @@ returns c =
       c .look-at .ensures,
       c .before .look2 .ensures,
       c .before .before .look .ensures,
-      c .before .before .before .outside .ensures,
+      c .before .before .before .head-outside .ensures,
     )
 
 pub judge-head-spec : {M : Type 1} → statement M
 judge-head-spec =
     tie.close
-    (tie.spec
-    outside-requires
-    look-requires
-    look-requires-2
-    look-at-requires
-    returns)
+    (tie.spec head-outside-requires look-requires look-requires-2 look-at-requires returns)

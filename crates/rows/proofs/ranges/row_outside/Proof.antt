@@ -3,7 +3,7 @@
 use mathlib.Core.Path.{_≡_, sym, ap, _∙_}
 use denote.Ref.{now}
 use Rattle.tables.specs.declared.Table.{Table}
-use Rattle.tables.specs.declared.Table.the-variants.{Zones, Owners, Units, Accounts, Loads, Reservations}
+use Rattle.tables.specs.declared.Table.the-variants.{Zones, Owners, Units, Accounts, Loads, Reservations, Firm}
 use Rattle.rows.specs.Rows.{rowOutside}
 use Rattle.rows.proofs.Looks.{row-of}
 use borrow.Author.Needs.{needs}
@@ -50,6 +50,12 @@ enum-told-6 c = search needs
 reservation-outside-requires : tie.Need-reservation-outside-requires
 reservation-outside-requires c κs = row-of _ Reservations _ _ (c .enum-told6 .given .1) (c .before .before .before .pre)
 
+enum-told-7 : tie.Need-enum-told-7
+enum-told-7 c = search needs
+
+firm-outside-requires : tie.Need-firm-outside-requires
+firm-outside-requires c κs = row-of _ Firm _ _ (c .enum-told7 .given .1) (c .before .before .before .pre)
+
 returns : tie.Need-returns
 returns c = c .zone-outside .ensures ∙ same (c .before .before .before) Zones (c .before .enum-told .given .1)
 
@@ -68,6 +74,9 @@ returns-5 c = c .load-outside .ensures ∙ same (c .before .before .before) Load
 returns-6 : tie.Need-returns-6
 returns-6 c = c .reservation-outside .ensures ∙ same (c .before .before .before) Reservations (c .before .enum-told6 .given .1)
 
+returns-7 : tie.Need-returns-7
+returns-7 c = c .firm-outside .ensures ∙ same (c .before .before .before) Firm (c .before .enum-told7 .given .1)
+
 pub row-outside-spec : {M : Type 1} → statement M
 row-outside-spec =
     tie.close
@@ -84,9 +93,12 @@ row-outside-spec =
     load-outside-requires
     enum-told-6
     reservation-outside-requires
+    enum-told-7
+    firm-outside-requires
     returns
     returns-2
     returns-3
     returns-4
     returns-5
-    returns-6)
+    returns-6
+    returns-7)

@@ -1,14 +1,15 @@
 -- `rows::rules::row_unlinked` meets its contract: each arm looks for the rows that its own table names.
 -- Assumes nothing.
-use mathlib.Core.Path.{refl, ap, ap₂}
+use mathlib.Core.Path.{refl, ap, ap₂, _∙_}
 use mathlib.Core.Bool.{not, _&&_, _||_}
 use mathlib.Core.List.{map}
 use native.Mathlib.Omega.{arith}
 use lib.Dec.{eqb}
 use denote.Ref.{now}
-use Rattle.tables.specs.declared.Table.the-variants.{Zones, Owners, Units, Accounts, Loads, Reservations}
+use Rattle.tables.specs.declared.Table.the-variants.{Zones, Owners, Units, Accounts}
 use Rattle.tables.specs.Shape.{Tables, tablesFrom}
-use Rattle.rows.proofs.Looks.{row-held, entry-held, named-held, link-held}
+use Rattle.tables.proofs.Places.{width-pos}
+use Rattle.rows.proofs.Looks.{row-held, entry-held, named-held, link-held, account-named}
 use borrow.Author.Needs.{needs}
 use Rattle.rows.proofs.rules.row_unlinked.Statement.{statement}
 use Rattle.rows.proofs.rules.row_unlinked.Tie as tie
@@ -55,23 +56,13 @@ entry-requires-4 c κs = (row-held (held (c .before .before)) _ Accounts _ _ (c 
 unknown-requires-4 : tie.Need-unknown-requires-4
 unknown-requires-4 c κs = search needs
 
-enum-told-5 : tie.Need-enum-told-5
-enum-told-5 c = search needs
-
 entry-requires-5 : tie.Need-entry-requires-5
-entry-requires-5 c κs = (row-held (held (c .before .before)) _ Loads _ _ (c .enum-told5 .given .1) (c .before .before .words-of .ensures) (c .before .before .before .pre), omega arith)
+entry-requires-5 c κs =
+    let table = c .before .before .args .table in
+    (row-held (held (c .before)) table table _ _ refl (c .before .words-of .ensures) (c .before .before .pre), width-pos table)
 
 unknown-requires-5 : tie.Need-unknown-requires-5
 unknown-requires-5 c κs = search needs
-
-enum-told-6 : tie.Need-enum-told-6
-enum-told-6 c = search needs
-
-entry-requires-6 : tie.Need-entry-requires-6
-entry-requires-6 c κs = (row-held (held (c .before .before)) _ Reservations _ _ (c .enum-told6 .given .1) (c .before .before .words-of .ensures) (c .before .before .before .pre), omega arith)
-
-unknown-requires-6 : tie.Need-unknown-requires-6
-unknown-requires-6 c κs = search needs
 
 returns : tie.Need-returns
 returns c = link-held (held (c .before .before)) _ Zones _ _ (c .enum-told .given .1) (c .before .before .words-of .ensures) _ refl
@@ -103,17 +94,10 @@ returns-4 c =
 
 returns-5 : tie.Need-returns-5
 returns-5 c =
-    let w = c .before .before .before .before in
-    let told = c .before .before .enum-told5 .given .1 in
-    link-held (held w) _ Loads _ _ told (w .words-of .ensures) _
-    (named-held (held w) _ Loads _ _ told (w .words-of .ensures) Accounts 0 _ _ (c .unknown5 .ensures) (c .before .entry5 .ensures))
-
-returns-6 : tie.Need-returns-6
-returns-6 c =
-    let w = c .before .before .before .before in
-    let told = c .before .before .enum-told6 .given .1 in
-    link-held (held w) _ Reservations _ _ told (w .words-of .ensures) _
-    (named-held (held w) _ Reservations _ _ told (w .words-of .ensures) Accounts 0 _ _ (c .unknown6 .ensures) (c .before .entry6 .ensures))
+    let w = c .before .before .before in
+    let table = w .before .args .table in
+    named-held (held w) table table _ _ refl (w .words-of .ensures) Accounts 0 _ _ (c .unknown5 .ensures) (c .before .entry5 .ensures)
+    ∙ account-named (held w) table (w .before .args .i) (c .before .before .match .keys5)
 
 pub row-unlinked-spec : {M : Type 1} → statement M
 row-unlinked-spec =
@@ -132,15 +116,10 @@ row-unlinked-spec =
     enum-told-4
     entry-requires-4
     unknown-requires-4
-    enum-told-5
     entry-requires-5
     unknown-requires-5
-    enum-told-6
-    entry-requires-6
-    unknown-requires-6
     returns
     returns-2
     returns-3
     returns-4
-    returns-5
-    returns-6)
+    returns-5)

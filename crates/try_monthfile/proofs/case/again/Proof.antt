@@ -24,44 +24,53 @@ slice-aggregate-read-5 c = search needs
 slice-aggregate-read-6 : tie.Need-slice-aggregate-read-6
 slice-aggregate-read-6 c = search needs
 
+slice-aggregate-read-7 : tie.Need-slice-aggregate-read-7
+slice-aggregate-read-7 c = search needs
+
 read-requires : tie.Need-read-requires
 read-requires c κs = search needs
 
 array-share-prefix-zones : tie.Need-array-share-prefix-zones
 array-share-prefix-zones c = search needs
 
-slice-aggregate-t24 : tie.Need-slice-aggregate-t24
-slice-aggregate-t24 c = simp length-take (omega arith)
+slice-aggregate-t27 : tie.Need-slice-aggregate-t27
+slice-aggregate-t27 c = simp length-take (omega arith)
 
 array-share-prefix-owners : tie.Need-array-share-prefix-owners
 array-share-prefix-owners c = search needs
 
-slice-aggregate-t26 : tie.Need-slice-aggregate-t26
-slice-aggregate-t26 c = simp length-take (omega arith)
+slice-aggregate-t29 : tie.Need-slice-aggregate-t29
+slice-aggregate-t29 c = simp length-take (omega arith)
 
 array-share-prefix-units : tie.Need-array-share-prefix-units
 array-share-prefix-units c = search needs
 
-slice-aggregate-t28 : tie.Need-slice-aggregate-t28
-slice-aggregate-t28 c = simp length-take (omega arith)
+slice-aggregate-t31 : tie.Need-slice-aggregate-t31
+slice-aggregate-t31 c = simp length-take (omega arith)
 
 array-share-prefix-accounts : tie.Need-array-share-prefix-accounts
 array-share-prefix-accounts c = search needs
 
-slice-aggregate-t30 : tie.Need-slice-aggregate-t30
-slice-aggregate-t30 c = simp length-take (omega arith)
+slice-aggregate-t33 : tie.Need-slice-aggregate-t33
+slice-aggregate-t33 c = simp length-take (omega arith)
 
 array-share-prefix-loads : tie.Need-array-share-prefix-loads
 array-share-prefix-loads c = search needs
 
-slice-aggregate-t32 : tie.Need-slice-aggregate-t32
-slice-aggregate-t32 c = simp length-take (omega arith)
+slice-aggregate-t35 : tie.Need-slice-aggregate-t35
+slice-aggregate-t35 c = simp length-take (omega arith)
 
 array-share-prefix-reservations : tie.Need-array-share-prefix-reservations
 array-share-prefix-reservations c = search needs
 
-slice-aggregate-t34 : tie.Need-slice-aggregate-t34
-slice-aggregate-t34 c = simp length-take (omega arith)
+slice-aggregate-t37 : tie.Need-slice-aggregate-t37
+slice-aggregate-t37 c = simp length-take (omega arith)
+
+array-share-prefix-firm : tie.Need-array-share-prefix-firm
+array-share-prefix-firm c = search needs
+
+slice-aggregate-t39 : tie.Need-slice-aggregate-t39
+slice-aggregate-t39 c = simp length-take (omega arith)
 
 write-again-requires : tie.Need-write-again-requires
 write-again-requires c κs = search needs
@@ -79,18 +88,21 @@ again-spec =
     slice-aggregate-read-4
     slice-aggregate-read-5
     slice-aggregate-read-6
+    slice-aggregate-read-7
     read-requires
     array-share-prefix-zones
-    slice-aggregate-t24
+    slice-aggregate-t27
     array-share-prefix-owners
-    slice-aggregate-t26
+    slice-aggregate-t29
     array-share-prefix-units
-    slice-aggregate-t28
+    slice-aggregate-t31
     array-share-prefix-accounts
-    slice-aggregate-t30
+    slice-aggregate-t33
     array-share-prefix-loads
-    slice-aggregate-t32
+    slice-aggregate-t35
     array-share-prefix-reservations
-    slice-aggregate-t34
+    slice-aggregate-t37
+    array-share-prefix-firm
+    slice-aggregate-t39
     write-again-requires
     returns)

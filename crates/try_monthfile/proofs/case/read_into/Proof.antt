@@ -42,6 +42,12 @@ array-read-least-6 c = search needs
 least-requires-6 : tie.Need-least-requires-6
 least-requires-6 c κs = search needs
 
+array-read-least-7 : tie.Need-array-read-least-7
+array-read-least-7 c = search needs
+
+least-requires-7 : tie.Need-least-requires-7
+least-requires-7 c κs = search needs
+
 array-borrow-prefix-zone-words : tie.Need-array-borrow-prefix-zone-words
 array-borrow-prefix-zone-words c = search needs
 
@@ -78,6 +84,12 @@ array-borrow-prefix-reservation-words c = search needs
 slice-aggregate-read-and-show-6 : tie.Need-slice-aggregate-read-and-show-6
 slice-aggregate-read-and-show-6 c = simp length-take (omega arith)
 
+array-borrow-prefix-firm-words : tie.Need-array-borrow-prefix-firm-words
+array-borrow-prefix-firm-words c = search needs
+
+slice-aggregate-read-and-show-7 : tie.Need-slice-aggregate-read-and-show-7
+slice-aggregate-read-and-show-7 c = simp length-take (omega arith)
+
 read-and-show-requires : tie.Need-read-and-show-requires
 read-and-show-requires c κs = search needs
 
@@ -100,6 +112,8 @@ read-into-spec =
     least-requires-5
     array-read-least-6
     least-requires-6
+    array-read-least-7
+    least-requires-7
     array-borrow-prefix-zone-words
     slice-aggregate-read-and-show
     array-borrow-prefix-owner-words
@@ -112,5 +126,7 @@ read-into-spec =
     slice-aggregate-read-and-show-5
     array-borrow-prefix-reservation-words
     slice-aggregate-read-and-show-6
+    array-borrow-prefix-firm-words
+    slice-aggregate-read-and-show-7
     read-and-show-requires
     returns)

@@ -1,14 +1,13 @@
--- `fileread::judge::one_number` meets its contract.
+-- `fileform::head::one_number` meets its contract.
 -- Assumes nothing.
-use mathlib.Core.Path.{sym, ap, _∙_}
+use mathlib.Core.Path.{sym, ap, subst, _∙_}
 use native.Mathlib.Omega.{arith}
-use mathlib.Core.Path.{subst}
 use Rattle.text.specs.Places.{LineAt, fieldsOf, stored}
 use Rattle.text.proofs.Numbers.{never}
 use Rattle.text.proofs.Stores.{stored-none}
 use borrow.Author.Needs.{needs}
-use Rattle.fileread.proofs.judge.one_number.Statement.{statement}
-use Rattle.fileread.proofs.judge.one_number.Tie as tie
+use Rattle.fileform.proofs.head.one_number.Statement.{statement}
+use Rattle.fileform.proofs.head.one_number.Tie as tie
 
 next-line-requires : tie.Need-next-line-requires
 next-line-requires c κs = search needs

@@ -1,4 +1,4 @@
--- `filewrite::put::rows_in_all` meets its contract: the rows so far and those from a table on are all of them.
+-- `filewrite::rows::rows_in_all` meets its contract: the rows so far and those from a table on are all of them.
 -- Assumes nothing.
 use mathlib.Core.Path.{_≡_, sym}
 use mathlib.Core.List.{[], map}
@@ -9,8 +9,8 @@ use denote.Ref.{now}
 use Rattle.tables.specs.Shape.{tableCount, tablesFrom}
 use Rattle.filewrite.proofs.Pieces.{rowsFrom, rows-next, rows-end}
 use borrow.Author.Needs.{needs}
-use Rattle.filewrite.proofs.put.rows_in_all.Statement.{statement}
-use Rattle.filewrite.proofs.put.rows_in_all.Tie as tie
+use Rattle.filewrite.proofs.rows.rows_in_all.Statement.{statement}
+use Rattle.filewrite.proofs.rows.rows_in_all.Tie as tie
 
 abbrev Inv-loop : tie.InvT-loop
 Inv-loop t1 tables rows₀ k₀ rows k =
