@@ -63,3 +63,8 @@ bent-number = refl
 pub bent-weekday : reading monthForm (bytes "month=4\ndays=30\nnonzone=0\ndaily=0\nweekly=0\nmonthly=0\nzone=1,365000\nend=1\n") ≡ refused (refuse TEXT 0 53)
 unfolding isDigit digitsOn firstNumber past field fields line rowLines headLines tableLines rowsInAll ending reading refuse
 bent-weekday = refl
+
+-- a file from before the four lines of firm service
+pub bent-before : reading monthForm (bytes "month=4\ndays=30\nnonzone=0\nzone=1,365000\nowner=1,1,200\nowner=2,1,100\nunit=1,2,1,1,12000,0\naccount=1,70,1\naccount=2,71,0\nload=1,1,10\nload=1,2,10\nptp=2,480,0\nend=9\n") ≡ refused (refuse TEXT 0 26)
+unfolding isDigit digitsOn firstNumber past field fields line rowLines headLines tableLines rowsInAll ending reading refuse
+bent-before = refl

@@ -2,7 +2,7 @@
 -- Assumes nothing.
 use mathlib.Core.Path.{_≡_, refl, sym, ap, subst, _∙_}
 use mathlib.Core.Logic.{⊎-elim, _≢_}
-use mathlib.Core.Bool.{Bool, true, false, true≢false, not, cond, _&&_, _||_, and-eq-true-iff}
+use mathlib.Core.Bool.{Bool, true, false, not, cond, _&&_, _||_, and-eq-true-iff}
 use mathlib.Core.List.{List}
 use Prim.Native.Nat.{ℕ, _+_, _-_, _%_, _<_}
 use native.Mathlib.Omega.{arith}
@@ -54,11 +54,6 @@ reserve service x = go (eqb service reactive) refl
       holds = λ f. (within 0 mostReserve x .holds f, λ q. absurd (eqb-false service reactive e q));
       kept = λ p. within 0 mostReserve x .kept (p .0);
     }
-
--- a second rule, tested where the first holds
-pub also : {P Q : Type 0} {s t : Bool} → Tests P s → (P → Tests Q t) → Tests (P × Q) (s || t)
-also {s = true} p q = record { holds = λ e. absurd (true≢false e); kept = λ r. absurd (true≢false (p .kept (r .0))) }
-also {s = false} p q = let rule = p .holds refl in record { holds = λ e. (rule, q rule .holds e); kept = λ r. q rule .kept (r .1) }
 
 -- "first day (1 for monthly)", of one of the month's days
 pub first-day : (term days x : ℕ) → Within 1 days x → Tests (term ≡ monthlyTerm → x ≡ 1) (outside 1 (lastFirstDay term days) x)

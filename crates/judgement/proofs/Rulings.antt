@@ -42,8 +42,8 @@ use Rattle.rows.specs.Rows.{rowNumber, notAbove, zoneOutside, ownerOutside, uni
 use Rattle.judgement.specs.Good.{ZoneInRange, OwnerInRange, UnitInRange, AccountInRange, LoadInRange, ReservationInRange, FirmInRange, InRange, Ascending, Linked, Unpaired, GoodRow, HeadInRange}
 use Rattle.judgement.specs.Judgement.{headOutside}
 use Rattle.judgement.specs.Refused.{FirstBroken, by-range, by-order, by-link, by-pair}
-use Rattle.tables.proofs.Tests.{Tests, breaks, reworded, no-rule, both}
-use Rattle.judgement.proofs.Keeping.{faulty, within, reserve, also, first-day, above-before, above-tested, known, unless-zero, own-pair}
+use Rattle.tables.proofs.Tests.{Tests, breaks, reworded, no-rule, also, both}
+use Rattle.judgement.proofs.Keeping.{faulty, within, reserve, first-day, above-before, above-tested, known, unless-zero, own-pair}
 
 -- RANGE of the head ..
 pub head-range : (head : Head) → Tests (HeadInRange head) (headOutside head)

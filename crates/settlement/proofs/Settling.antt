@@ -73,6 +73,11 @@ lent-or-left stride c block room n f true e = stored-lent stride c block room n 
 lent-or-left stride c block room n f false {after} e =
     column-lent stride c block room after (ap length e ∙ column-long stride c block room)
 
+-- what a call leaves in a column of charges and one of credits: a figure for each account, and for each owner, or the words that were there
+record ColumnsLeft (m : Input) (charge credit : ℕ → ℕ) (charged credited : Bool) (charges chargesAfter credits creditsAfter : List ℕ) : Type 0 where
+  charges-left : chargesAfter ≡ cond charged (put (accountCount m) charge charges) charges
+  credits-left : creditsAfter ≡ cond credited (put (ownerCount m) credit credits) credits
+
 -- two columns with the network part and the energy part of each account's use
 pub record UsesHeld (m : Input) (networks energies : List ℕ) : Type 0 where
   pub network-held : Holds (accountCount m) (networkUse m) networks
@@ -204,14 +209,9 @@ module _ (m : Input) where
       service-answer : r ≡ serviceInTurn (serviceIn m s) place
       service-answer = served .answers
 
-      holds-service-charges : r .number ≡ 0 → accountCount m ≤ length charges → Holds (accountCount m) (serviceCharge m s) chargesAfter
-      unfolding serviceCharge
-      holds-service-charges fine long =
-          holds (accountCount m) (serviceCharge m s) charges chargesAfter (served .lent ∙ (rw (eq-eqb (r .number) 0 fine))) long
-
-      holds-service-credits : ownerCount m ≤ length credits → Holds (ownerCount m) (serviceCredit m s) creditsAfter
-      unfolding serviceCredit creditIn unitCredit
-      holds-service-credits long = holds (ownerCount m) (serviceCredit forUnits s) credits creditsAfter (settled .credited) long
+      service-left : ColumnsLeft m (serviceCharge m s) (serviceCredit m s) (eqb (r .number) 0) true charges chargesAfter credits creditsAfter
+      unfolding serviceCharge serviceCredit creditIn unitCredit
+      service-left = record { charges-left = served .lent; credits-left = settled .credited }
 
   -- firm service
   module _ {place : ℕ} {charges chargesAfter credits creditsAfter : List ℕ} {r : Answer}
@@ -220,17 +220,13 @@ module _ (m : Input) where
     unfolding firmRefusal firmPot firmCharge requirements
     firm-answer = settled .answer
 
-    holds-firm-charges : accountCount m ≤ length charges → Holds (accountCount m) (firmCharge m) chargesAfter
-    unfolding firmCharge
-    holds-firm-charges long = holds (accountCount m) (firmCharge forFirm) charges chargesAfter (settled .charged) long
+    firm-left : ColumnsLeft m (firmCharge m) (firmCredit m) true (eqb (firmRefusal m) 0) charges chargesAfter credits creditsAfter
+    unfolding firmCharge firmCredit firmPot firmRefusal requirements
+    firm-left = record { charges-left = settled .charged; credits-left = settled .credited }
 
-    holds-firm-credits : r .number ≡ 0 → ownerCount m ≤ length credits → Holds (ownerCount m) (firmCredit m) creditsAfter
-    unfolding firmCredit firmPot firmCharge requirements
-    holds-firm-credits fine long =
-        holds (ownerCount m) (firmCredit forFirm) credits creditsAfter (settled .credited ∙ (rw (eq-eqb (firmRefusal forFirm) 0 none))) long
-      where
-        none : firmRefusal forFirm ≡ 0
-        none = sym (refuse-number (firmRefusal forFirm) DIVISIONS place) ∙ ap (λ (a : Answer). a .number) (sym (settled .answer)) ∙ fine
+    firm-unrefused : r .number ≡ 0 → firmRefusal m ≡ 0
+    firm-unrefused fine =
+        sym (refuse-number (firmRefusal m) DIVISIONS place) ∙ ap (λ (a : Answer). a .number) (sym firm-answer) ∙ fine
 
   -- two blocks with all their columns, each of which has a word for each account, or owner
   module _ {accountBlock ownerBlock : List ℕ} (can : Settleable m) (whole : Whole accountBlock ownerBlock) where
@@ -293,49 +289,23 @@ module _ (m : Input) where
       credits-of-zone-0 fine =
           carried (network-credits-lent .inside 1 (omega arith)) (holds-nonzone-credits charges divided fine (part-room 1 (omega arith)))
 
-    -- a service, lent column c of the accounts and column d of the owners
-    module _ {networks energies : List ℕ} (used : UsesHeld m networks energies) (c d : ℕ) (h : c < chargeWidth) (k : d < creditWidth) {s place : ℕ} {charges credits : List ℕ} {r : Answer}
-        (settled : ServiceSettled forUnits (at networks) (at energies) s place (columnAt (limit Accounts) c accountBlock) charges (columnAt (limit Owners) d ownerBlock) credits r) where
-      service-charges-lent : ColumnLent (limit Accounts) c accountBlock charges (withColumns (limit Accounts) c 1 charges accountBlock)
-      service-charges-lent =
-          lent-or-left (limit Accounts) c accountBlock (omega (arith, whole .for-accounts, h)) (accountCount m) (service.accountCharge (serviceIn m s)) (eqb (r .number) 0)
-          (served used s place settled .lent)
+    -- a call that is lent column c of the accounts and column d of the owners
+    module _ (c d : ℕ) (h : c < chargeWidth) (k : d < creditWidth) {charge credit : ℕ → ℕ} {charged? credited? : Bool} {charges credits : List ℕ}
+        (left : ColumnsLeft m charge credit charged? credited? (columnAt (limit Accounts) c accountBlock) charges (columnAt (limit Owners) d ownerBlock) credits) where
+      charges-lent : ColumnLent (limit Accounts) c accountBlock charges (withColumns (limit Accounts) c 1 charges accountBlock)
+      charges-lent = lent-or-left (limit Accounts) c accountBlock (omega (arith, whole .for-accounts, h)) (accountCount m) charge charged? (left .charges-left)
 
-      service-credits-lent : ColumnLent (limit Owners) d ownerBlock credits (withColumns (limit Owners) d 1 credits ownerBlock)
-      service-credits-lent =
-          stored-lent (limit Owners) d ownerBlock (omega (arith, whole .for-owners, k)) (ownerCount m) (serviceCredit forUnits s) (settled .credited)
+      credits-lent : ColumnLent (limit Owners) d ownerBlock credits (withColumns (limit Owners) d 1 credits ownerBlock)
+      credits-lent = lent-or-left (limit Owners) d ownerBlock (omega (arith, whole .for-owners, k)) (ownerCount m) credit credited? (left .credits-left)
 
-      served-whole : Whole (withColumns (limit Accounts) c 1 charges accountBlock) (withColumns (limit Owners) d 1 credits ownerBlock)
-      served-whole =
-          record { for-accounts = service-charges-lent .long ∙ whole .for-accounts; for-owners = service-credits-lent .long ∙ whole .for-owners }
+      left-whole : Whole (withColumns (limit Accounts) c 1 charges accountBlock) (withColumns (limit Owners) d 1 credits ownerBlock)
+      left-whole = record { for-accounts = charges-lent .long ∙ whole .for-accounts; for-owners = credits-lent .long ∙ whole .for-owners }
 
-      charges-of-service : r .number ≡ 0 → Holds (accountCount m) (serviceCharge m s) (columnAt (limit Accounts) c (withColumns (limit Accounts) c 1 charges accountBlock))
-      charges-of-service fine = carried (service-charges-lent .its) (holds-service-charges used s place settled fine (account-column c h))
+      charges-hold : charged? ≡ true → Holds (accountCount m) charge (columnAt (limit Accounts) c (withColumns (limit Accounts) c 1 charges accountBlock))
+      charges-hold e = carried (charges-lent .its) (holds (accountCount m) charge (columnAt (limit Accounts) c accountBlock) charges (left .charges-left ∙ (rw e)) (account-column c h))
 
-      credits-of-service : Holds (ownerCount m) (serviceCredit m s) (columnAt (limit Owners) d (withColumns (limit Owners) d 1 credits ownerBlock))
-      credits-of-service = carried (service-credits-lent .its) (holds-service-credits used s place settled (owner-column d k))
-
-    -- firm service, lent column c of the accounts and column d of the owners
-    module _ (c d : ℕ) (h : c < chargeWidth) (k : d < creditWidth) {place : ℕ} {charges credits : List ℕ} {r : Answer}
-        (settled : FirmSettled forFirm place (columnAt (limit Accounts) c accountBlock) charges (columnAt (limit Owners) d ownerBlock) credits r) where
-      firm-charges-lent : ColumnLent (limit Accounts) c accountBlock charges (withColumns (limit Accounts) c 1 charges accountBlock)
-      firm-charges-lent =
-          stored-lent (limit Accounts) c accountBlock (omega (arith, whole .for-accounts, h)) (accountCount m) (firmCharge forFirm) (settled .charged)
-
-      firm-credits-lent : ColumnLent (limit Owners) d ownerBlock credits (withColumns (limit Owners) d 1 credits ownerBlock)
-      firm-credits-lent =
-          lent-or-left (limit Owners) d ownerBlock (omega (arith, whole .for-owners, k)) (ownerCount m) (firmCredit forFirm) (eqb (firmRefusal forFirm) 0)
-          (settled .credited)
-
-      firm-whole : Whole (withColumns (limit Accounts) c 1 charges accountBlock) (withColumns (limit Owners) d 1 credits ownerBlock)
-      firm-whole =
-          record { for-accounts = firm-charges-lent .long ∙ whole .for-accounts; for-owners = firm-credits-lent .long ∙ whole .for-owners }
-
-      charges-of-firm : Holds (accountCount m) (firmCharge m) (columnAt (limit Accounts) c (withColumns (limit Accounts) c 1 charges accountBlock))
-      charges-of-firm = carried (firm-charges-lent .its) (holds-firm-charges settled (account-column c h))
-
-      credits-of-firm : r .number ≡ 0 → Holds (ownerCount m) (firmCredit m) (columnAt (limit Owners) d (withColumns (limit Owners) d 1 credits ownerBlock))
-      credits-of-firm fine = carried (firm-credits-lent .its) (holds-firm-credits settled fine (owner-column d k))
+      credits-hold : credited? ≡ true → Holds (ownerCount m) credit (columnAt (limit Owners) d (withColumns (limit Owners) d 1 credits ownerBlock))
+      credits-hold e = carried (credits-lent .its) (holds (ownerCount m) credit (columnAt (limit Owners) d ownerBlock) credits (left .credits-left ∙ (rw e)) (owner-column d k))
 
 -- A month that can be settled, with two new blocks, of which the accounts' first column is filled, and two columns with the parts of
 -- the accounts' use, which were lent with a word for each account that there may be.
@@ -391,8 +361,11 @@ module _ {m : Input} {accounts₀ owners₀ charges lent networks energies : Lis
       abbrev owners₂ : List ℕ
       owners₂ = withColumns (limit Owners) 2 1 blackstartcredits owners₁
 
+      left₂ : ColumnsLeft m (serviceCharge m s) (serviceCredit m s) (eqb (second .number) 0) true (columnAt (limit Accounts) 1 accounts₁) blackstart (columnAt (limit Owners) 2 owners₁) blackstartcredits
+      left₂ = service-left m used s place served
+
       pub whole₃ : Whole accounts₂ owners₂
-      whole₃ = served-whole m (b .can) whole₂ used 1 2 (omega arith) (omega arith) served
+      whole₃ = left-whole m (b .can) whole₂ 1 2 (omega arith) (omega arith) left₂
 
       -- .. reactive ..
       module _ {s′ place′ : ℕ} {reactives reactivecredits : List ℕ} {third : Answer}
@@ -403,20 +376,23 @@ module _ {m : Input} {accounts₀ owners₀ charges lent networks energies : Lis
         abbrev owners₃ : List ℕ
         owners₃ = withColumns (limit Owners) 3 1 reactivecredits owners₂
 
+        left₃ : ColumnsLeft m (serviceCharge m s′) (serviceCredit m s′) (eqb (third .number) 0) true (columnAt (limit Accounts) 2 accounts₂) reactives (columnAt (limit Owners) 3 owners₂) reactivecredits
+        left₃ = service-left m used s′ place′ served-too
+
         pub whole₄ : Whole accounts₃ owners₃
-        whole₄ = served-whole m (b .can) whole₃ used 2 3 (omega arith) (omega arith) served-too
+        whole₄ = left-whole m (b .can) whole₃ 2 3 (omega arith) (omega arith) left₃
 
         blackstart-lent : ColumnLent (limit Accounts) 1 accounts₁ blackstart accounts₂
-        blackstart-lent = service-charges-lent m (b .can) whole₂ used 1 2 (omega arith) (omega arith) served
+        blackstart-lent = charges-lent m (b .can) whole₂ 1 2 (omega arith) (omega arith) left₂
 
         reactive-lent : ColumnLent (limit Accounts) 2 accounts₂ reactives accounts₃
-        reactive-lent = service-charges-lent m (b .can) whole₃ used 2 3 (omega arith) (omega arith) served-too
+        reactive-lent = charges-lent m (b .can) whole₃ 2 3 (omega arith) (omega arith) left₃
 
         blackstart-credited : ColumnLent (limit Owners) 2 owners₁ blackstartcredits owners₂
-        blackstart-credited = service-credits-lent m (b .can) whole₂ used 1 2 (omega arith) (omega arith) served
+        blackstart-credited = credits-lent m (b .can) whole₂ 1 2 (omega arith) (omega arith) left₂
 
         reactive-credited : ColumnLent (limit Owners) 3 owners₂ reactivecredits owners₃
-        reactive-credited = service-credits-lent m (b .can) whole₃ used 2 3 (omega arith) (omega arith) served-too
+        reactive-credited = credits-lent m (b .can) whole₃ 2 3 (omega arith) (omega arith) left₃
 
         -- the last column of the owners is still as it was
         last-zeros : Zeros (columnAt (limit Owners) 4 owners₃)
@@ -446,14 +422,17 @@ module _ {m : Input} {accounts₀ owners₀ charges lent networks energies : Lis
           abbrev owners₄ : List ℕ
           owners₄ = withColumns (limit Owners) 4 1 firmcredits owners₃
 
+          left₄ : ColumnsLeft m (firmCharge m) (firmCredit m) true (eqb (firmRefusal m) 0) (columnAt (limit Accounts) 3 accounts₃) firmcharges (columnAt (limit Owners) 4 owners₃) firmcredits
+          left₄ = firm-left m firm
+
           pub whole₅ : Whole accounts₄ owners₄
-          whole₅ = firm-whole m (b .can) whole₄ 3 4 (omega arith) (omega arith) firm
+          whole₅ = left-whole m (b .can) whole₄ 3 4 (omega arith) (omega arith) left₄
 
           firm-lent : ColumnLent (limit Accounts) 3 accounts₃ firmcharges accounts₄
-          firm-lent = firm-charges-lent m (b .can) whole₄ 3 4 (omega arith) (omega arith) firm
+          firm-lent = charges-lent m (b .can) whole₄ 3 4 (omega arith) (omega arith) left₄
 
           firm-credited : ColumnLent (limit Owners) 4 owners₃ firmcredits owners₄
-          firm-credited = firm-credits-lent m (b .can) whole₄ 3 4 (omega arith) (omega arith) firm
+          firm-credited = credits-lent m (b .can) whole₄ 3 4 (omega arith) (omega arith) left₄
 
           module _ (its : s ≡ blackStart) (its-too : s′ ≡ reactive) where
             -- what the columns hold at the end, where nothing is refused
@@ -463,11 +442,11 @@ module _ {m : Input} {accounts₀ owners₀ charges lent networks energies : Lis
                 carried (firm-lent .others 0 refl ∙ reactive-lent .others 0 refl ∙ blackstart-lent .others 0 refl) network-charges
             charge-columns fine fine-too (suc zero) h =
                 carried (firm-lent .others 1 refl ∙ reactive-lent .others 1 refl)
-                (named (accountCount m) (serviceCharge m) its (charges-of-service m (b .can) whole₂ used 1 2 (omega arith) (omega arith) served fine))
+                (named (accountCount m) (serviceCharge m) its (charges-hold m (b .can) whole₂ 1 2 (omega arith) (omega arith) left₂ (eq-eqb (second .number) 0 fine)))
             charge-columns fine fine-too (suc (suc zero)) h =
                 carried (firm-lent .others 2 refl)
-                (named (accountCount m) (serviceCharge m) its-too (charges-of-service m (b .can) whole₃ used 2 3 (omega arith) (omega arith) served-too fine-too))
-            charge-columns fine fine-too (suc (suc (suc zero))) h = charges-of-firm m (b .can) whole₄ 3 4 (omega arith) (omega arith) firm
+                (named (accountCount m) (serviceCharge m) its-too (charges-hold m (b .can) whole₃ 2 3 (omega arith) (omega arith) left₃ (eq-eqb (third .number) 0 fine-too)))
+            charge-columns fine fine-too (suc (suc (suc zero))) h = charges-hold m (b .can) whole₄ 3 4 (omega arith) (omega arith) left₄ refl
             charge-columns fine fine-too (suc (suc (suc (suc column)))) h = absurd (omega (arith, h))
 
             credit-columns-hold : first .number ≡ 0 → fourth .number ≡ 0 → BlockHolds (ownerCount m) creditWidth (creditOf m) (limit Owners) owners₄
@@ -480,11 +459,12 @@ module _ {m : Input} {accounts₀ owners₀ charges lent networks energies : Lis
                 (credits-of-zone-0 m (b .can) whole₁ network-charges divided fine)
             credit-columns-hold fine fine-too (suc (suc zero)) h =
                 carried (firm-credited .others 2 refl ∙ reactive-credited .others 2 refl)
-                (named (ownerCount m) (serviceCredit m) its (credits-of-service m (b .can) whole₂ used 1 2 (omega arith) (omega arith) served))
+                (named (ownerCount m) (serviceCredit m) its (credits-hold m (b .can) whole₂ 1 2 (omega arith) (omega arith) left₂ refl))
             credit-columns-hold fine fine-too (suc (suc (suc zero))) h =
                 carried (firm-credited .others 3 refl)
-                (named (ownerCount m) (serviceCredit m) its-too (credits-of-service m (b .can) whole₃ used 2 3 (omega arith) (omega arith) served-too))
-            credit-columns-hold fine fine-too (suc (suc (suc (suc zero)))) h = credits-of-firm m (b .can) whole₄ 3 4 (omega arith) (omega arith) firm fine-too
+                (named (ownerCount m) (serviceCredit m) its-too (credits-hold m (b .can) whole₃ 2 3 (omega arith) (omega arith) left₃ refl))
+            credit-columns-hold fine fine-too (suc (suc (suc (suc zero)))) h =
+                credits-hold m (b .can) whole₄ 3 4 (omega arith) (omega arith) left₄ (eq-eqb (firmRefusal m) 0 (firm-unrefused m firm fine-too))
             credit-columns-hold fine fine-too (suc (suc (suc (suc (suc column))))) h = absurd (omega (arith, h))
 
             -- all divisions of the month

@@ -1,10 +1,12 @@
 -- The file of a good month has at most 52,793 bytes, since every entry has its range and every table its limit.
 -- Assumes nothing.
-use mathlib.Core.List.{List, [], _∷_, _++_}
+use mathlib.Core.Path.{subst, sym}
+use mathlib.Core.List.{List, [], _∷_, _++_, map}
 use Prim.Native.Nat.{ℕ, zero, suc, _+_, _*_, _≤_, _<_}
 use native.Mathlib.Nat.{le-trans, div-mul-le-self, mul-le-mul-right}
 use native.Mathlib.Omega.{arith}
-use lib.ListN.{length, length-append}
+use lib.ListN.{length, drop, length-append}
+use lib.Seq.{getD-drop}
 use Rattle.lists.specs.Sums.{sumTo, at}
 use Rattle.text.specs.Bytes.{bytes}
 use Rattle.text.specs.Numbers.{decimal}
@@ -16,11 +18,12 @@ use Rattle.tables.specs.Shape.{width, limit, rows, Tables, wordsOf}
 use Rattle.tables.specs.Columns.{entry}
 use Rattle.month.proofs.Months.{InYear, month-within}
 use Rattle.month.proofs.Promises.{month-exactly}
-use Rattle.judgement.specs.Good.{GoodMonth}
-use Rattle.fileform.specs.Form.{lineKey, monthForm}
+use Rattle.judgement.specs.Good.{HeadInRange, GoodMonth}
+use Rattle.fileform.specs.Each.{inOrder}
+use Rattle.fileform.specs.Form.{headCount, lineKey, kindOf, monthForm}
 use Rattle.fileform.specs.Reading.{rowsInAll}
 use Rattle.fileform.specs.Writing.{rowsText, headsText, tablesText, fileText}
-use Rattle.filewrite.specs.Calls.{numbersOf, allRows, monthText}
+use Rattle.filewrite.specs.Calls.{numbersOf, wholeRows, allRows, monthText}
 use Rattle.statement_text.proofs.Widths.{lineSize, decimal-below, line-within, rows-within}
 
 -- how many digits an entry in a column of each table can have
@@ -42,9 +45,41 @@ one-number key d n h = omega (arith, line-within key (n ∷ []) (λ c. d) by)
     by zero b = h
     by (suc c) b = absurd (omega (arith, b))
 
+-- the first lines, by the digits of their numbers
+abbrev sizeOf : List (List ℕ) → List ℕ → ℕ
+sizeOf [] ds = 0
+sizeOf (key ∷ keys) ds = length key + 1 + (at ds 0 + 1) + sizeOf keys (drop 1 ds)
+
+first-lines : (keys : List (List ℕ)) (ns ds : List ℕ) → ((place : ℕ) → place < length keys → length (decimal (at ns place)) ≤ at ds place)
+    → length (headsText keys ns) ≤ sizeOf keys ds
+unfolding headsText
+first-lines [] ns ds narrow = omega arith
+first-lines (key ∷ keys) ns ds narrow =
+    omega (
+      arith,
+      length-append (lineText key (at ns 0 ∷ [])) (headsText keys (drop 1 ns)),
+      one-number key (at ds 0) (at ns 0) (narrow 0 (omega arith)),
+      first-lines keys (drop 1 ns) (drop 1 ds)
+          (λ place h.
+          subst (λ x. length (decimal x) ≤ at (drop 1 ds) place) (sym (getD-drop 1 ns place 0))
+          (subst (λ d. length (decimal (at ns (1 + place))) ≤ d) (sym (getD-drop 1 ds place 0)) (narrow (1 + place) (omega (arith, h))))),
+    )
+
+-- how many digits each number of a head can have
+abbrev headDigits : List ℕ
+headDigits = 2 ∷ 2 ∷ 9 ∷ 9 ∷ 9 ∷ 9 ∷ 1 ∷ []
+
+-- the bytes of full tables
+abbrev mostLines : List Table → ℕ
+mostLines [] = 0
+mostLines (table ∷ tables) = limit table * lineSize (lineKey table) (width table) (digitsIn table) + mostLines tables
+
 module _ {head : Head} {t : Tables} {lentCharges lentCredits : ℕ} (good : GoodMonth head t lentCharges lentCredits) where
   in-year : InYear (head .month) (head .days)
   in-year = month-within (head .month) (head .days) (month-exactly (head .month) (head .days) .1 (good .frame .month-known))
+
+  range : HeadInRange head
+  range = good .frame .head-in-range
 
   narrow : (table : Table) (i c : ℕ) → i < rows table (wordsOf t table) → c < width table → length (decimal (entry table c (wordsOf t table) i)) ≤ digitsIn table c
   narrow Zones i zero b h = decimal-below 2 _ (omega (arith, good .tables Zones i b .in-range .zone .most))
@@ -91,91 +126,36 @@ module _ {head : Head} {t : Tables} {lentCharges lentCredits : ℕ} (good : Good
       (div-mul-le-self (length (wordsOf t table)) (width table)) (narrow table))
       (mul-le-mul-right (lineSize (lineKey table) (width table) (digitsIn table)) (good .frame .counted table .few))
 
-  -- the tables' lines, from each table on
-  abbrev fromFirm : List ℕ
-  fromFirm = linesOf Firm ++ []
-
-  abbrev fromReservations : List ℕ
-  fromReservations = linesOf Reservations ++ fromFirm
-
-  abbrev fromLoads : List ℕ
-  fromLoads = linesOf Loads ++ fromReservations
-
-  abbrev fromAccounts : List ℕ
-  fromAccounts = linesOf Accounts ++ fromLoads
-
-  abbrev fromUnits : List ℕ
-  fromUnits = linesOf Units ++ fromAccounts
-
-  abbrev fromOwners : List ℕ
-  fromOwners = linesOf Owners ++ fromUnits
+  -- the lines of some tables
+  each-within : (tables : List Table) → length (tablesText (map kindOf tables) (map (wholeRows t) tables)) ≤ mostLines tables
+  unfolding tablesText
+  each-within [] = omega arith
+  each-within (table ∷ tables) =
+      omega (
+        arith,
+        length-append (linesOf table) (tablesText (map kindOf tables) (map (wholeRows t) tables)),
+        table-within table,
+        each-within tables,
+      )
 
   -- 16 lines of zones with 19 bytes, 64 of owners with 29, 64 of units with 47, 32 of accounts with 28, 992 of loads with 21, 32 of
   -- reservations with 31, 992 of firm rows with 25
   tables-within : length (tablesText (monthForm .kinds) (allRows t)) ≤ 52688
-  unfolding tablesText sumTo
-  tables-within =
-      let zones : length (linesOf Zones) ≤ 304 = table-within Zones in
-      let owners : length (linesOf Owners) ≤ 1856 = table-within Owners in
-      let units : length (linesOf Units) ≤ 3008 = table-within Units in
-      let accounts : length (linesOf Accounts) ≤ 896 = table-within Accounts in
-      let loads : length (linesOf Loads) ≤ 20832 = table-within Loads in
-      let reservations : length (linesOf Reservations) ≤ 992 = table-within Reservations in
-      let firm : length (linesOf Firm) ≤ 24800 = table-within Firm in
-      omega (
-        arith,
-        length-append (linesOf Zones) fromOwners,
-        length-append (linesOf Owners) fromUnits,
-        length-append (linesOf Units) fromAccounts,
-        length-append (linesOf Accounts) fromLoads,
-        length-append (linesOf Loads) fromReservations,
-        length-append (linesOf Reservations) fromFirm,
-        length-append (linesOf Firm) [],
-      )
+  unfolding sumTo
+  tables-within = each-within (inOrder (λ table. table))
 
-  -- the first lines, from each on
-  abbrev lineWith : List ℕ → ℕ → List ℕ
-  lineWith key n = lineText key (n ∷ [])
-
-  abbrev fromWeekday : List ℕ
-  fromWeekday = lineWith (bytes "weekday") (head .weekday) ++ []
-
-  abbrev fromMonthly : List ℕ
-  fromMonthly = lineWith (bytes "monthly") (head .monthly) ++ fromWeekday
-
-  abbrev fromWeekly : List ℕ
-  fromWeekly = lineWith (bytes "weekly") (head .weekly) ++ fromMonthly
-
-  abbrev fromDaily : List ℕ
-  fromDaily = lineWith (bytes "daily") (head .daily) ++ fromWeekly
-
-  abbrev fromNonzone : List ℕ
-  fromNonzone = lineWith (bytes "nonzone") (head .nonzone) ++ fromDaily
-
-  abbrev fromDays : List ℕ
-  fromDays = lineWith (bytes "days") (head .days) ++ fromNonzone
+  head-narrow : (place : ℕ) → place < headCount → length (decimal (at (numbersOf head) place)) ≤ at headDigits place
+  head-narrow zero h = decimal-below 1 (head .month) (omega (arith, in-year .last))
+  head-narrow (suc zero) h = decimal-below 1 (head .days) (omega (arith, in-year .short))
+  head-narrow (suc (suc zero)) h = decimal-below 8 (head .nonzone) (omega (arith, range .nonzone .most))
+  head-narrow (suc (suc (suc zero))) h = decimal-below 8 (head .daily) (omega (arith, range .daily .most))
+  head-narrow (suc (suc (suc (suc zero)))) h = decimal-below 8 (head .weekly) (omega (arith, range .weekly .most))
+  head-narrow (suc (suc (suc (suc (suc zero))))) h = decimal-below 8 (head .monthly) (omega (arith, range .monthly .most))
+  head-narrow (suc (suc (suc (suc (suc (suc zero)))))) h = decimal-below 0 (head .weekday) (omega (arith, range .weekday .most))
+  head-narrow (suc (suc (suc (suc (suc (suc (suc place))))))) h = absurd (omega (arith, h))
 
   heads-within : length (headsText (monthForm .heads) (numbersOf head)) ≤ 96
-  unfolding headsText
-  heads-within =
-      let range = good .frame .head-in-range in
-      omega (
-        arith,
-        length-append (lineWith (bytes "month") (head .month)) fromDays,
-        length-append (lineWith (bytes "days") (head .days)) fromNonzone,
-        length-append (lineWith (bytes "nonzone") (head .nonzone)) fromDaily,
-        length-append (lineWith (bytes "daily") (head .daily)) fromWeekly,
-        length-append (lineWith (bytes "weekly") (head .weekly)) fromMonthly,
-        length-append (lineWith (bytes "monthly") (head .monthly)) fromWeekday,
-        length-append (lineWith (bytes "weekday") (head .weekday)) [],
-        one-number (bytes "month") 2 (head .month) (decimal-below 1 (head .month) (omega (arith, in-year .last))),
-        one-number (bytes "days") 2 (head .days) (decimal-below 1 (head .days) (omega (arith, in-year .short))),
-        one-number (bytes "nonzone") 9 (head .nonzone) (decimal-below 8 (head .nonzone) (omega (arith, range .nonzone .most))),
-        one-number (bytes "daily") 9 (head .daily) (decimal-below 8 (head .daily) (omega (arith, range .daily .most))),
-        one-number (bytes "weekly") 9 (head .weekly) (decimal-below 8 (head .weekly) (omega (arith, range .weekly .most))),
-        one-number (bytes "monthly") 9 (head .monthly) (decimal-below 8 (head .monthly) (omega (arith, range .monthly .most))),
-        one-number (bytes "weekday") 1 (head .weekday) (decimal-below 0 (head .weekday) (omega (arith, range .weekday .most))),
-      )
+  heads-within = first-lines (monthForm .heads) (numbersOf head) headDigits head-narrow
 
   few : (table : Table) → rows table (wordsOf t table) ≤ limit table
   few table = good .frame .counted table .few
@@ -191,8 +171,8 @@ module _ {head : Head} {t : Tables} {lentCharges lentCredits : ℕ} (good : Good
       omega (
         arith,
         length-append (headsText (monthForm .heads) (numbersOf head))
-            (tablesText (monthForm .kinds) (allRows t) ++ lineWith (bytes "end") (rowsInAll (allRows t))),
-        length-append (tablesText (monthForm .kinds) (allRows t)) (lineWith (bytes "end") (rowsInAll (allRows t))),
+            (tablesText (monthForm .kinds) (allRows t) ++ lineText (bytes "end") (rowsInAll (allRows t) ∷ [])),
+        length-append (tablesText (monthForm .kinds) (allRows t)) (lineText (bytes "end") (rowsInAll (allRows t) ∷ [])),
         heads-within,
         tables-within,
         one-number (bytes "end") 4 (rowsInAll (allRows t)) (decimal-below 3 (rowsInAll (allRows t)) (omega (arith, rows-within-limits))),

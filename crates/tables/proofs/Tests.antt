@@ -5,7 +5,6 @@ use mathlib.Core.Bool.{Bool, true, false, true≢false, not, _||_}
 use Prim.Native.Nat.{ℕ, _≤_, _<_}
 use lib.Dec.{ltb, eqb}
 use borrow.Author.Tests.{ltb-true, ltb-false, lt-ltb, le-ltb, eqb-true, eq-eqb, not-false}
-use Rattle.lists.proofs.Sums.{neither}
 
 pub record Tests (Rule : Type 0) (fault : Bool) : Type 0 where
   pub holds : fault ≡ false → Rule
@@ -23,12 +22,14 @@ reworded there back test = record { holds = λ e. there (test .holds e); kept = 
 pub no-rule : Tests (Unit {0}) false
 no-rule = record { holds = λ e. tt; kept = λ r. refl }
 
+-- a second rule, tested where the first holds
+pub also : {P Q : Type 0} {s t : Bool} → Tests P s → (P → Tests Q t) → Tests (P × Q) (s || t)
+also {s = true} p q = record { holds = λ e. absurd (true≢false e); kept = λ r. absurd (true≢false (p .kept (r .0))) }
+also {s = false} p q = let rule = p .holds refl in record { holds = λ e. (rule, q rule .holds e); kept = λ r. q rule .kept (r .1) }
+
 -- two rules, and a fault of either
 pub both : {P Q : Type 0} {s t : Bool} → Tests P s → Tests Q t → Tests (P × Q) (s || t)
-both {s = s} {t = t} p q = record {
-  holds = λ e. let none = neither s t e in (p .holds (none .0), q .holds (none .1));
-  kept = λ r. rw (p .kept (r .0), q .kept (r .1));
-}
+both p q = also p (λ rule. q)
 
 -- a number is at least another
 pub at-least : (a b : ℕ) → Tests (a ≤ b) (ltb b a)
