@@ -133,23 +133,23 @@ module _ (factor weight whole : ℕ) (wide : Stretch factor whole) (part : weigh
 
   -- the rest is a multiple of the factor, and hardly above the whole
   module _ (pot cents rest : ℕ) (passed : Passed pot (factor * weight) (factor * whole) cents rest) where
-    all-passed : cents * whole + rest / factor ≡ pot * weight
-    all-passed =
+    all_passed : cents * whole + rest / factor ≡ pot * weight
+    all_passed =
         let scaled : factor * (cents * whole) + rest ≡ factor * (pot * weight) = omega (arith, passed.adds_up) in
         let within : cents * whole ≤ pot * weight = le_of_mul-le-mul_left {k = factor} (omega arith) wide.positive in
         let over : cents * whole + (pot * weight - cents * whole) ≡ pot * weight = omega arith in
         let multiple : rest ≡ factor * (pot * weight - cents * whole) = omega (arith, ap (λ n. factor * n) over) in
         ap (λ n. cents * whole + n) (div-eq_of_eq-mul_right wide.positive multiple) ∙ over
 
-    hardly-whole : whole ≤ most → rest / factor < whole + whole
-    hardly-whole fits =
+    hardly_whole : whole ≤ most → rest / factor < whole + whole
+    hardly_whole fits =
         lt_of_mul-lt-mul_left factor
         (omega (arith, passed.rest_fits, wide.near, mul-div-le rest factor))
 
     pub quotient_is : (cents' rest' : ℕ) → whole ≤ most → TakenOff cents (rest / factor) whole cents' rest' → Quotient pot weight whole cents' rest'
     quotient_is cents' rest' fits settled =
-        let holds : cents' * whole + rest' ≡ pot * weight = settled.adds_up ∙ all-passed in
-        let below : rest' < whole = settled.below (hardly-whole fits) in
+        let holds : cents' * whole + rest' ≡ pot * weight = settled.adds_up ∙ all_passed in
+        let below : rest' < whole = settled.below (hardly_whole fits) in
         record {
           cents_are = sym (digits_div cents' below) ∙ ap (λ n. n / whole) holds;
           rest_is = sym (digits_mod cents' below) ∙ ap (λ n. n % whole) holds;

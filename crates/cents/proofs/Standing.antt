@@ -30,11 +30,11 @@ module _ (left : ℕ) (keys : List ℕ) where
   between_all = record { some = λ x fits h. absurd (omega arith); none = λ x fits h. absurd (omega arith) }
 
   module _ (key low high : ℕ) (known : Between left keys low high) where
-    pub as-known : (key < low) ⊎ (high ≤ key) → Settling left keys key low high
-    as-known settled = record { between = known; settled = settled }
+    pub as_known : (key < low) ⊎ (high ≤ key) → Settling left keys key low high
+    as_known settled = record { between = known; settled = settled }
 
-    pub gets-one : larger keys key < left → Settling left keys key low key
-    gets-one some =
+    pub gets_one : larger keys key < left → Settling left keys key low key
+    gets_one some =
         record {
           between = record { some = λ x fits h. omega (arith, fewer_larger keys key x h); none = known.none };
           settled = inr (le_refl key);

@@ -74,15 +74,15 @@ module _ (pot : ℕ) (weights : List ℕ) (whole : ℕ) where
       }
 
   module _ (base : Base pot weights whole) where
-    pub cents-small : (i : ℕ) {out out' keys keys' : List ℕ} {cents rest r : ℕ} → i < length weights
+    pub cents_small : (i : ℕ) {out out' keys keys' : List ℕ} {cents rest r : ℕ} → i < length weights
         → Quotient pot (at weights i) whole cents rest → PartKept cents rest i out out' keys keys' r → r ≤ most
-    cents-small i b part kept =
+    cents_small i b part kept =
         le_trans (le_of_eq (kept.given ∙ part.cents_are)) (le_trans (cents_fit pot weights whole base i b) base.pot_fits)
 
-    pub may-keep : (i : ℕ) {out keys : List ℕ} {cents rest : ℕ} → i < length weights
+    pub may_keep : (i : ℕ) {out keys : List ℕ} {cents rest : ℕ} → i < length weights
         → Quotient pot (at weights i) whole cents rest → Room weights out keys
         → ((rest ≤ most) × (i < places)) × ((i < length out) × (i < length keys))
-    may-keep i b part room = (
+    may_keep i b part room = (
       (
         omega (arith, part.rest_is, rest_fits pot weights whole base i, base.whole_fits),
         omega (arith, room.few),
@@ -91,8 +91,8 @@ module _ (pot : ℕ) (weights : List ℕ) (whole : ℕ) where
     )
 
     -- no more than 64 times the largest pot is given out
-    pub given-small : {from : ℕ} (n : ℕ) {out out' keys keys' : List ℕ} {r : ℕ} → n ≤ length weights → length weights ≤ 64
+    pub given_small : {from : ℕ} (n : ℕ) {out out' keys keys' : List ℕ} {r : ℕ} → n ≤ length weights → length weights ≤ 64
         → Cut pot weights whole from n out out' keys keys' r → r ≤ places * most
-    given-small n h few cut =
+    given_small n h few cut =
         let most : sum_to n (cents_of pot weights whole) ≤ n * most = given_fits pot weights whole base n h in
         omega (arith, cut.given)

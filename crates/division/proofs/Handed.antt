@@ -94,33 +94,33 @@ module _
     (pot : ℕ) (weights : List ℕ) (whole : ℕ) (size : FineSize pot (total weights))
     (is_whole : whole ≡ total weights + bit (eqb (total weights) 0)) (few : length weights ≤ most_weights)
   where
-    cents-is : (i : ℕ) → cents_of pot weights whole i ≡ quotient pot weights i
+    cents_is : (i : ℕ) → cents_of pot weights whole i ≡ quotient pot weights i
     unfolding quotient
-    cents-is i = same_quotient pot (total weights) whole size is_whole (at weights i)
+    cents_is i = same_quotient pot (total weights) whole size is_whole (at weights i)
 
-    key-is : (i : ℕ) → key_of pot weights whole i ≡ remainder pot weights i * 64 + (63 - i)
+    key_is : (i : ℕ) → key_of pot weights whole i ≡ remainder pot weights i * 64 + (63 - i)
     unfolding remainder
-    key-is i = ap (λ r. r * 64 + (63 - i)) (same_remainder pot (total weights) whole size is_whole (at weights i))
+    key_is i = ap (λ r. r * 64 + (63 - i)) (same_remainder pot (total weights) whole size is_whole (at weights i))
 
     left_is : pot - sum_to (length weights) (cents_of pot weights whole) ≡ leftover pot weights
     unfolding leftover
-    left_is = ap (λ k. pot - k) (sum_eq (length weights) (cents_of pot weights whole) (quotient pot weights) (λ i b. cents-is i))
+    left_is = ap (λ k. pot - k) (sum_eq (length weights) (cents_of pot weights whole) (quotient pot weights) (λ i b. cents_is i))
 
-    standing-is : (i : ℕ) → i < length weights
+    standing_is : (i : ℕ) → i < length weights
         → count (length weights) (λ j. ltb (key_of pot weights whole i) (key_of pot weights whole j)) ≡ rank (length weights) (comes_before pot weights) i
     unfolding comes_before
-    standing-is i b =
+    standing_is i b =
         sum_eq (length weights)
         (λ j. bit (ltb (key_of pot weights whole i) (key_of pot weights whole j)))
         (λ j. bit (largest_first (remainder pot weights) j i))
         (λ j h.
-        ap₂ (λ x y. bit (ltb x y)) (key-is i) (key-is j)
+        ap₂ (λ x y. bit (ltb x y)) (key_is i) (key_is j)
         ∙ ap bit (keyed (remainder pot weights) i j (le_trans b few) (le_trans h few)))
 
-    dealt-is : (i : ℕ) → i < length weights → dealt pot weights whole i ≡ share pot weights i
+    dealt_is : (i : ℕ) → i < length weights → dealt pot weights whole i ≡ share pot weights i
     unfolding dealt share gets_cent
-    dealt-is i b = ap₂ ◌+◌ (cents-is i) (ap₂ (λ x y. bit (ltb x y)) (standing-is i b) left_is)
+    dealt_is i b = ap₂ ◌+◌ (cents_is i) (ap₂ (λ x y. bit (ltb x y)) (standing_is i b) left_is)
 
-    pub shared-out : (out out' : List ℕ) → out' ≡ put (length weights) (dealt pot weights whole) out
+    pub shared_out : (out out' : List ℕ) → out' ≡ put (length weights) (dealt pot weights whole) out
         → out' ≡ put (length weights) (share pot weights) out
-    shared-out out out' e = e ∙ put_eq (length weights) (dealt pot weights whole) (share pot weights) out dealt-is
+    shared_out out out' e = e ∙ put_eq (length weights) (dealt pot weights whole) (share pot weights) out dealt_is

@@ -36,16 +36,16 @@ module _ (pot : ℕ) (weights : List ℕ) (member : ℕ → Bool)
     place : ℕ → ℕ
     place i = count i member
 
-    weight-alone : (i : ℕ) → i < length weights → member i ≡ true → at alone (place i) ≡ at weights i
+    weight_alone : (i : ℕ) → i < length weights → member i ≡ true → at alone (place i) ≡ at weights i
     unfolding alone place
-    weight-alone i b m = at_kept (length weights) member (at weights) i b m
+    weight_alone i b m = at_kept (length weights) member (at weights) i b m
 
     -- a sum over the members alone, where the others add nothing
-    sum-alone : (f g : ℕ → ℕ) → ((i : ℕ) → i < length weights → member i ≡ true → f (place i) ≡ g i)
+    sum_alone : (f g : ℕ → ℕ) → ((i : ℕ) → i < length weights → member i ≡ true → f (place i) ≡ g i)
         → ((i : ℕ) → i < length weights → member i ≡ false → g i ≡ 0)
         → sum_to (length alone) f ≡ sum_to (length weights) g
     unfolding alone place
-    sum-alone f g same none =
+    sum_alone f g same none =
         ap (λ n. sum_to n f) (length_kept (length weights) member (at weights))
         ∙ sum_kept (length weights) member f
         ∙ sum_eq (length weights) (λ i. when (member i) (f (place i))) g
@@ -56,49 +56,49 @@ module _ (pot : ℕ) (weights : List ℕ) (member : ℕ → Bool)
         (true_or_false (member i)))
 
     total_alone : total alone ≡ total weights
-    total_alone = sum-alone (at alone) (at weights) weight-alone others
+    total_alone = sum_alone (at alone) (at weights) weight_alone others
 
-    quotient-alone : (i : ℕ) → i < length weights → member i ≡ true → quotient pot alone (place i) ≡ quotient pot weights i
+    quotient_alone : (i : ℕ) → i < length weights → member i ≡ true → quotient pot alone (place i) ≡ quotient pot weights i
     unfolding quotient
-    quotient-alone i b m = ap₂ (λ w s. pot * w / s) (weight-alone i b m) total_alone
+    quotient_alone i b m = ap₂ (λ w s. pot * w / s) (weight_alone i b m) total_alone
 
-    remainder-alone : (i : ℕ) → i < length weights → member i ≡ true → remainder pot alone (place i) ≡ remainder pot weights i
+    remainder_alone : (i : ℕ) → i < length weights → member i ≡ true → remainder pot alone (place i) ≡ remainder pot weights i
     unfolding remainder
-    remainder-alone i b m = ap₂ (λ w s. pot * w % s) (weight-alone i b m) total_alone
+    remainder_alone i b m = ap₂ (λ w s. pot * w % s) (weight_alone i b m) total_alone
 
-    leftover-alone : leftover pot alone ≡ leftover pot weights
+    leftover_alone : leftover pot alone ≡ leftover pot weights
     unfolding leftover
-    leftover-alone =
+    leftover_alone =
         ap (λ s. pot - s)
-        (sum-alone (quotient pot alone) (quotient pot weights) quotient-alone (λ i b m. no_quotient pot weights i (others i b m)))
+        (sum_alone (quotient pot alone) (quotient pot weights) quotient_alone (λ i b m. no_quotient pot weights i (others i b m)))
 
-    order-alone : (j i : ℕ) → j < length weights → i < length weights → member j ≡ true → member i ≡ true
+    order_alone : (j i : ℕ) → j < length weights → i < length weights → member j ≡ true → member i ≡ true
         → comes_before pot alone (place j) (place i) ≡ comes_before pot weights j i
     unfolding comes_before largest_first place
-    order-alone j i bj bi mj mi =
-        ap₂ (λ x y. ltb x y || (eqb x y && ltb (place j) (place i))) (remainder-alone i bi mi) (remainder-alone j bj mj)
+    order_alone j i bj bi mj mi =
+        ap₂ (λ x y. ltb x y || (eqb x y && ltb (place j) (place i))) (remainder_alone i bi mi) (remainder_alone j bj mj)
         ∙ ap (λ t. ltb (remainder pot weights i) (remainder pot weights j) || (eqb (remainder pot weights i) (remainder pot weights j) && t))
         (place_order member j i mj mi)
 
     -- where something is cut off, no other position comes before
-    rank-alone : (i : ℕ) → i < length weights → member i ≡ true → 0 < remainder pot weights i
+    rank_alone : (i : ℕ) → i < length weights → member i ≡ true → 0 < remainder pot weights i
         → rank (length alone) (comes_before pot alone) (place i) ≡ rank (length weights) (comes_before pot weights) i
     unfolding comes_before
-    rank-alone i bi mi cut =
-        sum-alone (λ p. bit (comes_before pot alone p (place i))) (λ j. bit (comes_before pot weights j i))
-        (λ j bj mj. ap bit (order-alone j i bj bi mj mi))
+    rank_alone i bi mi cut =
+        sum_alone (λ p. bit (comes_before pot alone p (place i))) (λ j. bit (comes_before pot weights j i))
+        (λ j bj mj. ap bit (order_alone j i bj bi mj mi))
         (λ j bj mj.
         let none : remainder pot weights j ≡ 0 = no_remainder pot weights j (others j bj mj) in
         ap bit (smaller_later (remainder pot weights) j i (omega arith)))
 
-    gets-alone : 0 < total weights → (i : ℕ) → i < length weights → member i ≡ true → gets_cent pot alone (place i) ≡ gets_cent pot weights i
+    gets_alone : 0 < total weights → (i : ℕ) → i < length weights → member i ≡ true → gets_cent pot alone (place i) ≡ gets_cent pot weights i
     unfolding gets_cent
-    gets-alone positive i bi mi =
+    gets_alone positive i bi mi =
         ⊎_elim
-        (λ (cut : 0 < remainder pot weights i). ap₂ ltb (rank-alone i bi mi cut) leftover-alone)
+        (λ (cut : 0 < remainder pot weights i). ap₂ ltb (rank_alone i bi mi cut) leftover_alone)
         (λ (g : remainder pot weights i ≤ 0).
         let none : remainder pot weights i ≡ 0 = omega arith in
-        nothing_cut pot alone (rw total_alone positive) (place i) (remainder-alone i bi mi ∙ none)
+        nothing_cut pot alone (rw total_alone positive) (place i) (remainder_alone i bi mi ∙ none)
         ∙ sym (nothing_cut pot weights positive i none))
         (lt_or_le 0 (remainder pot weights i))
 
@@ -107,7 +107,7 @@ module _ (pot : ℕ) (weights : List ℕ) (member : ℕ → Bool)
     unfolding alone place
     share_alone positive i bi mi =
         share_is pot alone (place i)
-        ∙ ap₂ (λ q t. q + bit t) (quotient-alone i bi mi) (gets-alone positive i bi mi)
+        ∙ ap₂ (λ q t. q + bit t) (quotient_alone i bi mi) (gets_alone positive i bi mi)
         ∙ sym (share_is pot weights i)
 
     pub total_kept : total (kept (length weights) member (at weights)) ≡ total weights

@@ -124,15 +124,15 @@ abbrev charged : Input → List ℕ
 charged m = listed (account_count m) (services.service_charge m black_start)
 
 record Figures : Type 0 where
-  S-charges : charge_words case_s (9 ∷ 9 ∷ 9 ∷ 9 ∷ 9 ∷ 9 ∷ 9 ∷ 9 ∷ 9 ∷ []) ≡ (2000 ∷ 500 ∷ 0 ∷ 0 ∷ 0 ∷ 500 ∷ 0 ∷ 0 ∷ 9 ∷ [])
-  S-credits : credit_words case_s (9 ∷ 9 ∷ 9 ∷ 9 ∷ 9 ∷ 9 ∷ 9 ∷ 9 ∷ 9 ∷ 9 ∷ []) ≡ (1333 ∷ 0 ∷ 0 ∷ 0 ∷ 0 ∷ 667 ∷ 0 ∷ 1000 ∷ 0 ∷ 0 ∷ [])
-  S-answer : answer_of case_s 8 10 ≡ accepted
-  S-room : answer_of case_s 8 9 ≡ record { number = 2; table = 8; row = 0 }
-  B1-charges : charge_words case_b1 (0 ∷ 0 ∷ 0 ∷ 0 ∷ 0 ∷ 0 ∷ 0 ∷ 0 ∷ 0 ∷ 0 ∷ 0 ∷ 0 ∷ 0 ∷ 0 ∷ 0 ∷ 0 ∷ []) ≡ (0 ∷ 643 ∷ 643 ∷ 0 ∷ 0 ∷ 214 ∷ 214 ∷ 0 ∷ 0 ∷ 429 ∷ 429 ∷ 0 ∷ 0 ∷ 214 ∷ 214 ∷ 0 ∷ [])
-  B1-credits : credit_words case_b1 (0 ∷ 0 ∷ 0 ∷ 0 ∷ 0 ∷ []) ≡ (0 ∷ 0 ∷ 1500 ∷ 1500 ∷ 0 ∷ [])
-  B1-answer : answer_of case_b1 16 5 ≡ accepted
-  B1-splits : listed 2 (service.zone_side (services.service_in case_b1 black_start)) ≡ (857 ∷ 429 ∷ [])
-  B1-nonzone : listed 2 (service.nonzone_side (services.service_in case_b1 reactive)) ≡ (143 ∷ 71 ∷ [])
+  S_charges : charge_words case_s (9 ∷ 9 ∷ 9 ∷ 9 ∷ 9 ∷ 9 ∷ 9 ∷ 9 ∷ 9 ∷ []) ≡ (2000 ∷ 500 ∷ 0 ∷ 0 ∷ 0 ∷ 500 ∷ 0 ∷ 0 ∷ 9 ∷ [])
+  S_credits : credit_words case_s (9 ∷ 9 ∷ 9 ∷ 9 ∷ 9 ∷ 9 ∷ 9 ∷ 9 ∷ 9 ∷ 9 ∷ []) ≡ (1333 ∷ 0 ∷ 0 ∷ 0 ∷ 0 ∷ 667 ∷ 0 ∷ 1000 ∷ 0 ∷ 0 ∷ [])
+  S_answer : answer_of case_s 8 10 ≡ accepted
+  S_room : answer_of case_s 8 9 ≡ record { number = 2; table = 8; row = 0 }
+  B1_charges : charge_words case_b1 (0 ∷ 0 ∷ 0 ∷ 0 ∷ 0 ∷ 0 ∷ 0 ∷ 0 ∷ 0 ∷ 0 ∷ 0 ∷ 0 ∷ 0 ∷ 0 ∷ 0 ∷ 0 ∷ []) ≡ (0 ∷ 643 ∷ 643 ∷ 0 ∷ 0 ∷ 214 ∷ 214 ∷ 0 ∷ 0 ∷ 429 ∷ 429 ∷ 0 ∷ 0 ∷ 214 ∷ 214 ∷ 0 ∷ [])
+  B1_credits : credit_words case_b1 (0 ∷ 0 ∷ 0 ∷ 0 ∷ 0 ∷ []) ≡ (0 ∷ 0 ∷ 1500 ∷ 1500 ∷ 0 ∷ [])
+  B1_answer : answer_of case_b1 16 5 ≡ accepted
+  B1_splits : listed 2 (service.zone_side (services.service_in case_b1 black_start)) ≡ (857 ∷ 429 ∷ [])
+  B1_nonzone : listed 2 (service.nonzone_side (services.service_in case_b1 reactive)) ≡ (143 ∷ 71 ∷ [])
   unitless_answer : answer_of case_unitless 12 5 ≡ accepted
   unitless_uses : service.both_uses (services.service_in case_unitless black_start) ≡ (360 ∷ 480 ∷ [])
   unitless_sides : service.zone_side (services.service_in case_unitless black_start) 0 ∷ service.nonzone_pot (services.service_in case_unitless black_start) ∷ [] ≡ (429 ∷ 571 ∷ [])
@@ -159,15 +159,15 @@ figures : Figures
 unfolding sum_to sum_where largest_first every listed put refuse ◌then◌ first size_refusal quotient remainder leftover comes_before gets_cent share shares turns groups.among groups.weights_in groups.amount groups.amount_in_all groups.group_refusal groups.groups_in_turn service.zone_use service.nonzone_use service.both_uses service.zone_side service.nonzone_side service.zone_share service.nonzone_pot service.nonzone_parts service.nonzone_share service.account_charge turn.split_refusal turn.share_refusal turn.nonzone_refusal turn.zone_turn turn.service_in_turn is_month through twelfth month.use_of month.nearest month.charge_at_rate any rows.row_number rows.not_above rows.above rows.unknown rows.taken rows.zone_outside rows.row_of rows.owner_outside rows.unit_outside rows.account_outside rows.load_outside rows.reservation_outside rows.firm_outside week_of highest firm.cost_at firm.cost_of_week firm.is_in_week firm.is_alone firm.added_in firm.highest_in firm.week_cost firm.row_cost firm.firm_cost firm.firm_charge firm.firm_pot firm.firm_credit firm.firm_refusal counts.tables_in_turn counts.counted counts.counts_in_turn counts.room_for judgement.head_outside judgement.head_looked judgement.rows_judged judgement.judged contributions network_use energy_use network.rate_of network.rate network.network_charge network.charges_in network.requirements network.network_credit network.nonzone_credit network.network_nonzone_refusal services.unit_credit services.credit_in services.service_credit services.zone_credits services.zone_part services.nonzone_part services.service_charge network_in_turn divisions_in_turn answer_of charge_of credit_of charge_words credit_words
 figures =
     record {
-      S-charges = refl;
-      S-credits = refl;
-      S-answer = refl;
-      S-room = refl;
-      B1-charges = refl;
-      B1-credits = refl;
-      B1-answer = refl;
-      B1-splits = refl;
-      B1-nonzone = refl;
+      S_charges = refl;
+      S_credits = refl;
+      S_answer = refl;
+      S_room = refl;
+      B1_charges = refl;
+      B1_credits = refl;
+      B1_answer = refl;
+      B1_splits = refl;
+      B1_nonzone = refl;
       unitless_answer = refl;
       unitless_uses = refl;
       unitless_sides = refl;

@@ -23,10 +23,10 @@ pub record Starred : Type 0 where
   pub D6 : memory 0 (0 ∷ 0 ∷ []) (7 ∷ 7 ∷ 7 ∷ []) ≡ 0 ∷ 0 ∷ 7 ∷ []
   -- 0 by nothing is accepted, 1 by nothing has no base
   pub D7 : divide_refusal 0 [] 0 ≡ 0
-  pub D7-baseless : divide_refusal 1 [] 0 ≡ BASE
+  pub D7_baseless : divide_refusal 1 [] 0 ≡ BASE
   -- of 2 by 1, 1, 1, 1 a closest list that ties with ours passes, and one that is further off does not; nor does 15, 28, 57 of 100 by 1, 2, 4
   pub C1 : (meaning (verdict 2 (1 ∷ 1 ∷ 1 ∷ 1 ∷ []) (0 ∷ 1 ∷ 0 ∷ 1 ∷ []))).says ≡ yes
-  pub C1-other : (meaning (verdict 2 (1 ∷ 1 ∷ 1 ∷ 1 ∷ []) (2 ∷ 0 ∷ 0 ∷ 0 ∷ []))).says ≡ no
+  pub C1_other : (meaning (verdict 2 (1 ∷ 1 ∷ 1 ∷ 1 ∷ []) (2 ∷ 0 ∷ 0 ∷ 0 ∷ []))).says ≡ no
   pub C2 : (meaning (verdict 100 (1 ∷ 2 ∷ 4 ∷ []) (15 ∷ 28 ∷ 57 ∷ []))).says ≡ no
   -- 3,000 tenths in the month at 1,471,400
   pub N1 : charge_at_rate 3_000 1_471_400 ≡ 1_209_370

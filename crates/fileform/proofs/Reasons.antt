@@ -19,7 +19,7 @@ use Rattle.text.proofs.Lines.{line_text_lem}
 use Rattle.fileform.specs.Form.{Kind, Form, line_of, line_text_of}
 use Rattle.fileform.specs.Reading.{got, refused, onward, unfit, Rows, nth, head_lines, table_lines, Contents, closed, ending, reading}
 use Rattle.fileform.specs.Writing.{rows_text, heads_text, tables_text, AllFit, ContentsFit}
-use Rattle.fileform.specs.Refused.{NoLine, before_end, NoRow, Misfit, no-head, no_line, other-number, bytes-behind, AtMisfit, RowTooMany}
+use Rattle.fileform.specs.Refused.{NoLine, before_end, NoRow, Misfit, no_head, no_line, other_number, bytes_behind, AtMisfit, RowTooMany}
 use Rattle.fileform.proofs.Agree.{line_agrees, kind_agrees, kind_apart}
 use Rattle.fileform.proofs.RowLaws.{line_missing, rows_full}
 use Rattle.fileform.proofs.Forms.{
@@ -96,17 +96,17 @@ module _ (form : Form) (sound : Sound form) (text : List ℕ) where
 
   stops : (front rest : List ℕ) → text ≡ front ++ rest → Misfit form front rest → reading form text ≡ refused (unfit (length text) rest)
   unfolding reading
-  stops front rest stands (no-head k ns h e b f none) =
+  stops front rest stands (no_head k ns h e b f none) =
       ap (λ o. onward o (λ ms s. onward (table_lines form.kinds s) (λ ts t. ending (length text) form.last (record { head = ms; tables = ts }) t)))
       (ap (head_lines (length text) form.heads) (stands ∙ ap (λ u. u ++ rest) f) ∙ heads_short (length text) form.heads k ns rest h e b (plain_missing (get_or form.heads k []) 1 rest none))
   stops front rest stands (no_line c w f rows none) =
       behind_tables c front rest w stands f rows ∙ ending_stop (length text) form.last c rest (plain_missing form.last 1 rest none)
-  stops front rest stands (other-number c n more w small f e d) =
+  stops front rest stands (other_number c n more w small f e d) =
       behind_tables c front rest w stands f
       (subst (NoRow form.kinds c.tables) (sym e) (no_row_end form.kinds c.tables form.last (n ∷ []) more sound.keys))
       ∙ ending_other (length text) form.last c rest (n ∷ []) more
       (ap (line form.last 1) e ∙ line_text_lem form.last (n ∷ []) more (below_cons n [] small below_none)) d
-  stops front rest stands (bytes-behind c byte more w f e) =
+  stops front rest stands (bytes_behind c byte more w f e) =
       reading_last form sound text c rest w (stands ∙ ap (λ u. u ++ rest) f)
       ∙ ap (closed (length text) c) e ∙ ap (λ u. refused (unfit (length text) u)) (sym e)
 

@@ -24,7 +24,7 @@ use Rattle.text.proofs.Lines.{line_back, Line}
 use Rattle.fileform.specs.Form.{Kind, Form, line_of, line_text_of}
 use Rattle.fileform.specs.Reading.{Outcome, got, refused, onward, unfit, Rows, nth, RowsRead, row_lines, head_lines, table_lines, Contents, rows_in_all, ending, reading}
 use Rattle.fileform.specs.Writing.{rows_text, heads_text, tables_text, file_text, ContentsFit}
-use Rattle.fileform.specs.Refused.{NoLine, before_end, NoRow, Misfit, no-head, no_line, other-number, bytes-behind, AtMisfit, RowTooMany}
+use Rattle.fileform.specs.Refused.{NoLine, before_end, NoRow, Misfit, no_head, no_line, other_number, bytes_behind, AtMisfit, RowTooMany}
 use Rattle.fileform.proofs.Agree.{Back, line_agrees, kind_agrees}
 use Rattle.fileform.proofs.RowLaws.{no_line_there, rows_back, rows_ended, RowMore, rows_over}
 use Rattle.fileform.proofs.Forms.{
@@ -231,12 +231,12 @@ module _ (form : Form) (text : List ℕ) (a : Answer) where
       let before : length (take stop.k form.heads) ≡ stop.k =
       length-take-le stop.k form.heads (let h : stop.k < length form.heads = stop.is_head in omega arith) in
       misfit (heads_text (take stop.k form.heads) stop.ns) stop.rest stop.its stop.front.written
-      (no-head stop.k stop.ns stop.is_head (stop.front.one_each ∙ before) stop.front.below refl
+      (no_head stop.k stop.ns stop.is_head (stop.front.one_each ∙ before) stop.front.below refl
       (no_plain_line (get_or form.heads stop.k []) 1 stop.rest stop.none))
 
   module _ (ns s : List ℕ) (first : HeadsBack form.heads text ns s) where
-    table-limit : TableStop form.kinds s a → AtLimit form text a
-    table-limit stop =
+    table_limit : TableStop form.kinds s a → AtLimit form text a
+    table_limit stop =
         let kind : Kind = kind_at form.kinds stop.k in
         record {
           k = stop.k;
@@ -272,12 +272,12 @@ module _ (form : Form) (text : List ℕ) (a : Answer) where
           first.written ∙ ap (λ u. heads_text form.heads ns ++ u) back.written
           ∙ sym (append_assoc (heads_text form.heads ns) (tables_text form.kinds ts) t)
 
-      file-is : before_end form c ++ line_text form.last (rows_in_all c.tables ∷ []) ≡ file_text form c
+      file_is : before_end form c ++ line_text form.last (rows_in_all c.tables ∷ []) ≡ file_text form c
       unfolding file_text
-      file-is = append_assoc (heads_text form.heads ns) (tables_text form.kinds ts) (line_text form.last (rows_in_all ts ∷ []))
+      file_is = append_assoc (heads_text form.heads ns) (tables_text form.kinds ts) (line_text form.last (rows_in_all ts ∷ []))
 
-      end-misfit : ending (length text) form.last c t ≡ refused a → AtMisfit form text a
-      end-misfit e = go (line form.last 1 t) refl
+      end_misfit : ending (length text) form.last c t ≡ refused a → AtMisfit form text a
+      end_misfit e = go (line form.last 1 t) refl
         where
           shut : (ns u : List ℕ) → line form.last 1 t ≡ found ns u → at ns 0 ≡ rows_in_all c.tables → AtMisfit form text a
           shut ns [] p q = absurd (not_both e (ending_on (length text) form.last c t ns [] p q))
@@ -288,8 +288,8 @@ module _ (form : Form) (text : List ℕ) (a : Answer) where
               misfit (file_text form c) (byte ∷ u) (same_refusal e (ending_on (length text) form.last c t ns (byte ∷ u) p q))
               (stands ∙ ap (λ v. before_end form c ++ v) (one.written ∙ ap (λ v. v ++ (byte ∷ u)) last)
               ∙ sym (append_assoc (before_end form c) (line_text form.last (rows_in_all c.tables ∷ [])) (byte ∷ u))
-              ∙ ap (λ v. v ++ (byte ∷ u)) file-is)
-              (bytes-behind c byte u within refl refl)
+              ∙ ap (λ v. v ++ (byte ∷ u)) file_is)
+              (bytes_behind c byte u within refl refl)
 
           go : (o : Found (List ℕ)) → line form.last 1 t ≡ o → AtMisfit form text a
           go missing p =
@@ -302,13 +302,13 @@ module _ (form : Form) (text : List ℕ) (a : Answer) where
               let d : at ns 0 ≢ rows_in_all c.tables = eqb-false (at ns 0) (rows_in_all c.tables) q in
               let one : Line form.last 1 t ns u = line_back form.last 1 t ns u p in
               misfit (before_end form c) t (same_refusal e (ending_other (length text) form.last c t ns u p d)) stands
-              (other-number c (at ns 0) u within (one.below 0) refl
+              (other_number c (at ns 0) u within (one.below 0) refl
               (one.written ∙ ap (λ k. line_text form.last k ++ u) (single ns one.width_is)) d))
               (true_or_false (eqb (at ns 0) (rows_in_all c.tables)))
 
   pub reading_refused : reading form text ≡ refused a → AtMisfit form text a ⊎ AtLimit form text a
   unfolding reading
-  reading_refused e = by-head (onward_refused (head_lines size form.heads text) behind-heads a e)
+  reading_refused e = by_head (onward_refused (head_lines size form.heads text) behind_heads a e)
     where
       size : ℕ
       size = length text
@@ -316,15 +316,15 @@ module _ (form : Form) (text : List ℕ) (a : Answer) where
       behind_tables : List ℕ → List Rows → List ℕ → Outcome Contents
       behind_tables ns ts t = ending size form.last (record { head = ns; tables = ts }) t
 
-      behind-heads : List ℕ → List ℕ → Outcome Contents
-      behind-heads ns s = onward (table_lines form.kinds s) (behind_tables ns)
+      behind_heads : List ℕ → List ℕ → Outcome Contents
+      behind_heads ns s = onward (table_lines form.kinds s) (behind_tables ns)
 
-      by-table : (ns s : List ℕ) → HeadsBack form.heads text ns s → OnwardRefused (table_lines form.kinds s) (behind_tables ns) a
+      by_table : (ns s : List ℕ) → HeadsBack form.heads text ns s → OnwardRefused (table_lines form.kinds s) (behind_tables ns) a
           → AtMisfit form text a ⊎ AtLimit form text a
-      by-table ns s first (at_first q) = inr (table-limit ns s first (tables_refused form.kinds s a q))
-      by-table ns s first (behind ts t q r) = inl (end-misfit ns s first ts t q r)
+      by_table ns s first (at_first q) = inr (table_limit ns s first (tables_refused form.kinds s a q))
+      by_table ns s first (behind ts t q r) = inl (end_misfit ns s first ts t q r)
 
-      by-head : OnwardRefused (head_lines size form.heads text) behind-heads a → AtMisfit form text a ⊎ AtLimit form text a
-      by-head (at_first q) = inl (head_misfit (heads_refused size form.heads text a q))
-      by-head (behind ns s q r) =
-          by-table ns s (heads_back size form.heads text ns s q) (onward_refused (table_lines form.kinds s) (behind_tables ns) a r)
+      by_head : OnwardRefused (head_lines size form.heads text) behind_heads a → AtMisfit form text a ⊎ AtLimit form text a
+      by_head (at_first q) = inl (head_misfit (heads_refused size form.heads text a q))
+      by_head (behind ns s q r) =
+          by_table ns s (heads_back size form.heads text ns s q) (onward_refused (table_lines form.kinds s) (behind_tables ns) a r)

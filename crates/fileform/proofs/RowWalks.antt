@@ -48,8 +48,8 @@ module _ (read : List ℕ → Found (List ℕ)) (s : List ℕ) (o : RowsRead) (i
     one_left : row_lines read left (drop i s) ≡ row_lines read (suc (left - 1)) (drop i s)
     one_left = let e : left ≡ suc (left - 1) = omega arith in ap (λ k. row_lines read k (drop i s)) e
 
-    pub rows-missing : i ≤ length s → n ≡ 0 → CountedAt s o (record { count = count; next = i })
-    rows-missing h z = none_left h (one_left ∙ rows_stop read (left - 1) (drop i s) (a.unfit z))
+    pub rows_missing : i ≤ length s → n ≡ 0 → CountedAt s o (record { count = count; next = i })
+    rows_missing h z = none_left h (one_left ∙ rows_stop read (left - 1) (drop i s) (a.unfit z))
 
     pub rows_next : n ≢ 0 → RowsPartly o (row_lines read (left - 1) (drop n s)) (count + 1)
     rows_next d =
@@ -90,9 +90,9 @@ module _ (read : List ℕ → Found (List ℕ)) (s : List ℕ) (i left : ℕ) (p
     pub rows_behind : (row_lines read (left - 1) (drop n s)).rest ≡ (row_lines read left (drop i s)).rest
     rows_behind = sym (ap (λ (r : RowsRead). r.rest) on)
 
-    pub rows-stored : (write : List ℕ → List ℕ) (width : ℕ) → Agree read write width
+    pub rows_stored : (write : List ℕ → List ℕ) (width : ℕ) → Agree read write width
         → stored after (place + width) (row_lines read (left - 1) (drop n s)).words ≡ stored words place (row_lines read left (drop i s)).words
-    rows-stored write width agree =
+    rows_stored write width agree =
         let ns : List ℕ = fields_of (read (drop i s)) in
         let more : List ℕ = (row_lines read (left - 1) (drop n s)).words in
         let one : Back write width (drop i s) ns (drop n s) = agree.back (drop i s) ns (drop n s) row_is in

@@ -31,7 +31,7 @@ counted_at_unique s r c d a b =
 pub rows_taken_unique : (s : List ℕ) (r : RowsRead) (lent : List ℕ) (n m : ℕ) (after after' : List ℕ)
     → RowsTaken s r lent n after → RowsTaken s r lent m after' → (n ≡ m) × (after ≡ after')
 rows_taken_unique s r lent n m after after' a b =
-    fields_taken_unique s (found r.words r.rest) lent 0 n m after after' (row-taken n after a) (row-taken m after' b)
+    fields_taken_unique s (found r.words r.rest) lent 0 n m after after' (row_taken_lem n after a) (row_taken_lem m after' b)
   where
-    row-taken : (n : ℕ) (after : List ℕ) → RowsTaken s r lent n after → FieldsTaken s (found r.words r.rest) lent 0 n after
-    row-taken n after a = record { inside = a.inside; behind = a.behind; written = a.written }
+    row_taken_lem : (n : ℕ) (after : List ℕ) → RowsTaken s r lent n after → FieldsTaken s (found r.words r.rest) lent 0 n after
+    row_taken_lem n after a = record { inside = a.inside; behind = a.behind; written = a.written }

@@ -28,16 +28,16 @@ module _ (form : Form) (front rest : List ℕ) where
   -- "a month file line that doesn't fit": every line in front fits in its turn, and what stands behind them does not
   pub data Misfit : Type 0 where
     -- k of the first lines, with their numbers, and the next is not there
-    no-head : (k : ℕ) (ns : List ℕ) → k < length form.heads → length ns ≡ k → Below ns
+    no_head : (k : ℕ) (ns : List ℕ) → k < length form.heads → length ns ≡ k → Below ns
         → front ≡ heads_text (take k form.heads) ns → NoLine (line_text (get_or form.heads k [])) 1 rest → Misfit
     -- neither a row whose turn is to come nor the last line
     no_line : (c : Contents) → ContentsFit form c
         → front ≡ before_end form c → NoRow form.kinds c.tables rest → NoLine (line_text form.last) 1 rest → Misfit
     -- "An `end` with another number is TEXT at its line"
-    other-number : (c : Contents) (n : ℕ) (more : List ℕ) → ContentsFit form c → n < bound
+    other_number : (c : Contents) (n : ℕ) (more : List ℕ) → ContentsFit form c → n < bound
         → front ≡ before_end form c → rest ≡ line_text form.last (n ∷ []) ++ more → n ≢ rows_in_all c.tables → Misfit
     -- "Nothing follows `end`", but bytes do
-    bytes-behind : (c : Contents) (byte : ℕ) (more : List ℕ) → ContentsFit form c
+    bytes_behind : (c : Contents) (byte : ℕ) (more : List ℕ) → ContentsFit form c
         → front ≡ file_text form c → rest ≡ byte ∷ more → Misfit
 
 -- "TEXT has table 0 and, as row, the offset of the line's first byte, of the first byte after `end`, or the text's length where a

@@ -65,8 +65,8 @@ module _ (table : Table) {s : List ℕ} {ts : List Rows} {rest : List ℕ} {i : 
   )
 
   module _ (words : List ℕ) (n : ℕ) (after : List ℕ) (t : RowsTaken s (row_lines (line_of (kind_of table)) count (drop i s)) words n after) where
-    next-stands : Standing s ts rest (place_of table + 1) n
-    next-stands =
+    next_stands : Standing s ts rest (place_of table + 1) n
+    next_stands =
         record {
           inside = t.inside;
           read =
@@ -80,8 +80,8 @@ module _ (table : Table) {s : List ℕ} {ts : List Rows} {rest : List ℕ} {i : 
     table_taken =
         t.written ∙ ap (λ (r : RowsRead). stored words 0 r.words) same_rows ∙ ap (λ (t : Rows). stored words 0 t.words) (sym table_is)
 
-    pub table-took : Took table s ts rest words n after
-    table-took = record { stands = next-stands; taken = table_taken }
+    pub table_took : Took table s ts rest words n after
+    table_took = record { stands = next_stands; taken = table_taken }
 
 -- every table taken
 pub all_taken : (s : List ℕ) (body : ℕ) (lent after : Tables) (ts : List Rows) (rest : List ℕ) → Standing s ts rest 0 body

@@ -46,8 +46,8 @@ module _ (s lent : List ℕ) (w : Walk) (head : List ℕ) (first : Walked s (hea
     abbrev pub ns : List ℕ
     ns = (first.went_on z).0
 
-    pub judged-tables : v.answer.number ≢ 0 → (held : Reading) (body : ℕ) → held ≡ read_answer (refused v.answer) → TextJudged s held body
-    judged-tables d held body q =
+    pub judged_tables : v.answer.number ≢ 0 → (held : Reading) (body : ℕ) → held ≡ read_answer (refused v.answer) → TextJudged s held body
+    judged_tables d held body q =
         refused_as s v.answer held body
         (reading_tables month_form s ns (drop w.at s) v.answer (first.went_on z).1 (second.stopped d)) d q
 
@@ -58,33 +58,33 @@ module _ (s lent : List ℕ) (w : Walk) (head : List ℕ) (first : Walked s (hea
       back : TablesBack month_form.kinds (drop w.at s) ts (drop v.at s)
       back = tables_back month_form.kinds (drop w.at s) ts (drop v.at s) (second.went_on y).1
 
-      pub counts-are : counts ≡ counts_of ts
-      counts-are = (second.went_on y).2 ∙ stored_all lent' (counts_of ts) (counts_length ts ∙ all_fit_length month_form.kinds ts back.fit ∙ sym room)
+      pub counts_are : counts ≡ counts_of ts
+      counts_are = (second.went_on y).2 ∙ stored_all lent' (counts_of ts) (counts_length ts ∙ all_fit_length month_form.kinds ts back.fit ∙ sym room)
 
       rows_are : total counts ≡ rows_in_all ts
-      rows_are = ap total counts-are ∙ total_counts ts
+      rows_are = ap total counts_are ∙ total_counts ts
 
       whole : reading month_form s ≡ ending (length s) month_form.last (record { head = ns; tables = ts }) (drop v.at s)
       whole = reading_on month_form s ns (drop w.at s) ts (drop v.at s) (first.went_on z).1 (second.went_on y).1
 
       module _ (rows : ℕ) (added : rows ≡ min (total counts) (2 ^ 64 - 1)) (a : Answer) (third : Ended month_form.last s (drop v.at s) rows a) where
-        all-rows : rows_in_all ts ≡ rows
-        all-rows =
+        all_rows_lem : rows_in_all ts ≡ rows
+        all_rows_lem =
             let few : rows_in_all ts < 2 ^ 64 = month_rows ts back.fit in
             sym (added ∙ ap (λ n. min n (2 ^ 64 - 1)) rows_are ∙ min-eq_left (omega arith))
 
-        pub judged-whole : length lent ≡ head_count → (held : Reading) → held ≡ reading_of a head counts → TextJudged s held w.at
-        judged-whole room-head held q =
+        pub judged_whole : length lent ≡ head_count → (held : Reading) → held ≡ reading_of a head counts → TextJudged s held w.at
+        judged_whole room-head held q =
             let its : held.answer ≡ a = ap (λ (r : Reading). r.answer) q in
             let number : held.answer.number ≡ a.number = ap (λ (b : Answer). b.number) its in
             let contents : Contents = record { head = ns; tables = ts } in
             let all : held.answer.number ≡ 0 → reading month_form s ≡ got contents [] =
-            λ x. whole ∙ third.went_on (sym number ∙ x) contents all-rows in
+            λ x. whole ∙ third.went_on (sym number ∙ x) contents all_rows_lem in
             let hb : HeadsBack month_form.heads s ns (drop w.at s) = heads_back (length s) month_form.heads s ns (drop w.at s) (first.went_on z).1 in
             let head-is : head ≡ ns = (first.went_on z).2 ∙ stored_all lent ns (hb.one_each ∙ sym room-head) in
             record {
-              stopped = λ d. whole ∙ third.stopped (λ x. d (number ∙ x)) contents all-rows ∙ ap refused (sym its);
-              answers = λ x. q ∙ ap (λ b. reading_of b head counts) (third.none (sym number ∙ x)) ∙ ap₂ (reading_of accepted) head-is counts-are
+              stopped = λ d. whole ∙ third.stopped (λ x. d (number ∙ x)) contents all_rows_lem ∙ ap refused (sym its);
+              answers = λ x. q ∙ ap (λ b. reading_of b head counts) (third.none (sym number ∙ x)) ∙ ap₂ (reading_of accepted) head-is counts_are
                   ∙ ap read_answer (sym (all x));
               holds = λ x.
                   record {

@@ -70,9 +70,9 @@ module _ {E : Type 0} (kept : List E → List ℕ) (none : kept [] ≡ []) (more
   rearrange x y (refused r) = refl
 
   module _ (o left : Outcome (List E)) (lent current : List ℕ) (k : ℕ) (w : Walking o left kept lent current k) where
-    pub walk-next : (es : List E) (left' : Outcome (List E)) (next : List ℕ) (n : ℕ) → left ≡ onward left' (λ ms u. got (es ++ ms) u)
+    pub walk_next : (es : List E) (left' : Outcome (List E)) (next : List ℕ) (n : ℕ) → left ≡ onward left' (λ ms u. got (es ++ ms) u)
         → next ≡ stored current k (kept es) → k + length (kept es) ≡ n → Walking o left' kept lent next n
-    walk-next es left' next n e s q =
+    walk_next es left' next n e s q =
         record {
           done = w.done ++ es;
           size = ap length (more w.done es) ∙ length-append (kept w.done) (kept es) ∙ ap (λ m. m + length (kept es)) w.size ∙ q;
@@ -84,9 +84,9 @@ module _ {E : Type 0} (kept : List E → List ℕ) (none : kept [] ≡ []) (more
               ∙ ap (stored lent 0) (sym (more w.done es));
         }
 
-    pub walk-stop : (s : List ℕ) (r : Walk) (a : Answer) (after : List ℕ) → left ≡ refused a → r.answer ≡ a → a.number ≢ 0 → r.at ≤ length s
+    pub walk_stop : (s : List ℕ) (r : Walk) (a : Answer) (after : List ℕ) → left ≡ refused a → r.answer ≡ a → a.number ≢ 0 → r.at ≤ length s
         → Walked s o kept lent r after
-    walk-stop s r a after e q d h =
+    walk_stop s r a after e q d h =
         record {
           inside = h;
           stopped = λ b. w.whole ∙ ap (λ l. onward l (λ ms u. got (w.done ++ ms) u)) e ∙ ap refused (sym q);
@@ -116,19 +116,19 @@ itself_more x y = refl
 
 module _ (s : List ℕ) (o : Outcome (List ℕ)) (lent current : List ℕ) (i k : ℕ) (h : i ≤ length s) where
   module _ (key : List ℕ) (keys : List (List ℕ)) (w : Walking o (head_lines (length s) (key ∷ keys) (drop i s)) itself lent current k) where
-    head-stop : line key 1 (drop i s) ≡ missing → (r : Walk) → (r.answer ≡ refuse numbers.TEXT numbers.HEAD i) × (r.at ≡ i) → (after : List ℕ)
+    head_stop : line key 1 (drop i s) ≡ missing → (r : Walk) → (r.answer ≡ refuse numbers.TEXT numbers.HEAD i) × (r.at ≡ i) → (after : List ℕ)
         → Walked s o itself lent r after
-    head-stop e r q after =
-        walk-stop itself refl itself_more o (head_lines (length s) (key ∷ keys) (drop i s)) lent current k w s r
+    head_stop e r q after =
+        walk_stop itself refl itself_more o (head_lines (length s) (key ∷ keys) (drop i s)) lent current k w s r
         (refuse numbers.TEXT numbers.HEAD i) after
         (heads_stop (length s) key keys (drop i s) e ∙ ap refused (unfit_at s i h))
         q.0 (text_refuses i (refuse numbers.TEXT numbers.HEAD i) refl) (rw q.1 h)
 
-    head-next : (n : ℕ) (ns next : List ℕ) → line key 1 (drop i s) ≡ found ns (drop n s) → next ≡ stored current k (fields_of (line key 1 (drop i s)))
+    head_next : (n : ℕ) (ns next : List ℕ) → line key 1 (drop i s) ≡ found ns (drop n s) → next ≡ stored current k (fields_of (line key 1 (drop i s)))
         → Walking o (head_lines (length s) keys (drop n s)) itself lent next (k + 1)
-    head-next n ns next read written =
+    head_next n ns next read written =
         let one : Line key 1 (drop i s) ns (drop n s) = line_back key 1 (drop i s) ns (drop n s) read in
-        walk-next itself refl itself_more o (head_lines (length s) (key ∷ keys) (drop i s)) lent current k w ns
+        walk_next itself refl itself_more o (head_lines (length s) (key ∷ keys) (drop i s)) lent current k w ns
         (head_lines (length s) keys (drop n s)) next (k + 1)
         (heads_on (length s) key keys (drop i s) ns (drop n s) read)
         (written ∙ ap (λ f. stored current k (fields_of f)) read)
@@ -151,50 +151,50 @@ module _ (s lent : List ℕ) (ends : Ends) (a : EndsAt s 0 (head_key 0) (head_ke
 
   pub month_stop : ends.first ≡ 0 → (r : Walk) → (r.answer ≡ refuse numbers.TEXT numbers.HEAD 0) × (r.at ≡ 0) → (after : List ℕ)
       → Walked s (first_lines s) itself lent r after
-  month_stop z = head-stop s (first_lines s) lent lent 0 0 (omega arith) (head_key 0) (drop 1 head_keys) start (a.first_is.unfit z)
+  month_stop z = head_stop s (first_lines s) lent lent 0 0 (omega arith) (head_key 0) (drop 1 head_keys) start (a.first_is.unfit z)
 
   module _ (d : ends.first ≢ 0) where
-    pub month-there : line (head_key 0) 1 s ≢ missing
-    month-there e = never e (a.first_is.fits d).1
+    pub month_there : line (head_key 0) 1 s ≢ missing
+    month_there e = never e (a.first_is.fits d).1
 
-    month-next : (one : List ℕ) → one ≡ stored lent 0 (fields_of (line (head_key 0) 1 s))
+    month_next : (one : List ℕ) → one ≡ stored lent 0 (fields_of (line (head_key 0) 1 s))
         → Walking (first_lines s) (head_lines (length s) (drop 1 head_keys) (drop ends.first s)) itself lent one 1
-    month-next one e =
-        head-next s (first_lines s) lent lent 0 0 (omega arith) (head_key 0) (drop 1 head_keys) start ends.first (a.first_is.fits d).0 one
+    month_next one e =
+        head_next s (first_lines s) lent lent 0 0 (omega arith) (head_key 0) (drop 1 head_keys) start ends.first (a.first_is.fits d).0 one
         (a.first_is.fits d).1 e
 
-    pub days-stop : ends.second ≡ ends.first → (r : Walk) → (r.answer ≡ refuse numbers.TEXT numbers.HEAD ends.first) × (r.at ≡ ends.first)
+    pub days_stop : ends.second ≡ ends.first → (r : Walk) → (r.answer ≡ refuse numbers.TEXT numbers.HEAD ends.first) × (r.at ≡ ends.first)
         → (after : List ℕ) → Walked s (first_lines s) itself lent r after
-    days-stop z =
+    days_stop z =
         let one : List ℕ = stored lent 0 (fields_of (line (head_key 0) 1 s)) in
-        head-stop s (first_lines s) lent one ends.first 1 (a.first_is.inside d) (head_key 1) (drop 2 head_keys) (month-next one refl)
+        head_stop s (first_lines s) lent one ends.first 1 (a.first_is.inside d) (head_key 1) (drop 2 head_keys) (month_next one refl)
         (a.second_is.unfit z)
 
     module _ (f : ends.second ≢ ends.first) where
-      pub days-there : line (head_key 1) 1 (drop ends.first s) ≢ missing
-      days-there e = never e (a.second_is.fits f).1
+      pub days_there : line (head_key 1) 1 (drop ends.first s) ≢ missing
+      days_there e = never e (a.second_is.fits f).1
 
-      pub days-next : (one two : List ℕ) → one ≡ stored lent 0 (fields_of (line (head_key 0) 1 s))
+      pub days_next : (one two : List ℕ) → one ≡ stored lent 0 (fields_of (line (head_key 0) 1 s))
           → two ≡ stored one 1 (fields_of (line (head_key 1) 1 (drop ends.first s)))
           → Walking (first_lines s) (head_lines (length s) (drop 2 head_keys) (drop ends.second s)) itself lent two 2
-      days-next one two e g =
-          head-next s (first_lines s) lent one ends.first 1 (a.first_is.inside d) (head_key 1) (drop 2 head_keys) (month-next one e) ends.second
+      days_next one two e g =
+          head_next s (first_lines s) lent one ends.first 1 (a.first_is.inside d) (head_key 1) (drop 2 head_keys) (month_next one e) ends.second
           (a.second_is.fits f).0 two (a.second_is.fits f).1 g
 
 -- .. and the others follow, each by its place
 module _ (s : List ℕ) (o : Outcome (List ℕ)) (lent current : List ℕ) (i k : ℕ)
     (w : Walking o (head_lines (length s) (drop k head_keys) (drop i s)) itself lent current k) (h : i ≤ length s) where
   module _ (b : k < head_count) (n : ℕ) (next : List ℕ) (t : OneTaken s (line (head_key k) 1 (drop i s)) current k n next) where
-    opened-head : Walking o (head_lines (length s) (head_key k ∷ drop (k + 1) head_keys) (drop i s)) itself lent current k
-    opened-head = subst (λ keys. Walking o (head_lines (length s) keys (drop i s)) itself lent current k) (heads_drop k b) w
+    opened_head : Walking o (head_lines (length s) (head_key k ∷ drop (k + 1) head_keys) (drop i s)) itself lent current k
+    opened_head = subst (λ keys. Walking o (head_lines (length s) keys (drop i s)) itself lent current k) (heads_drop k b) w
 
-    pub further-stop : n ≡ 0 → (r : Walk) → (r.answer ≡ refuse numbers.TEXT numbers.HEAD i) × (r.at ≡ i) → (after : List ℕ)
+    pub further_stop : n ≡ 0 → (r : Walk) → (r.answer ≡ refuse numbers.TEXT numbers.HEAD i) × (r.at ≡ i) → (after : List ℕ)
         → Walked s o itself lent r after
-    further-stop z = head-stop s o lent current i k h (head_key k) (drop (k + 1) head_keys) opened-head (t.line_is.unfit z)
+    further_stop z = head_stop s o lent current i k h (head_key k) (drop (k + 1) head_keys) opened_head (t.line_is.unfit z)
 
-    pub further-next : n ≢ 0 → Walking o (head_lines (length s) (drop (k + 1) head_keys) (drop n s)) itself lent next (k + 1)
-    further-next d =
-        head-next s o lent current i k h (head_key k) (drop (k + 1) head_keys) opened-head n (t.line_is.fits d).0 next (t.line_is.fits d).1 t.written
+    pub further_next : n ≢ 0 → Walking o (head_lines (length s) (drop (k + 1) head_keys) (drop n s)) itself lent next (k + 1)
+    further_next d =
+        head_next s o lent current i k h (head_key k) (drop (k + 1) head_keys) opened_head n (t.line_is.fits d).0 next (t.line_is.fits d).1 t.written
 
   pub further_end : head_count ≤ k → (r : Walk) → (r.answer ≡ accepted) × (r.at ≡ i) → Walked s o itself lent r current
   further_end b =
@@ -216,26 +216,26 @@ total_counts (t ∷ ts) = sum_first (length (counts_of ts)) (at (counts_of (t �
 module _ (s : List ℕ) (o : Outcome (List Rows)) (lent current : List ℕ) (i k : ℕ)
     (w : Walking o (table_lines (drop k month_form.kinds) (drop i s)) counts_of lent current k) (h : i ≤ length s) where
   module _ (b : k < table_count) (c : Counted) (t : CountedAt s (read_of (kind_of (table_at k)) (drop i s)) c) where
-    opened-kind : table_lines (drop k month_form.kinds) (drop i s) ≡ table_lines (kind_of (table_at k) ∷ drop (k + 1) month_form.kinds) (drop i s)
-    opened-kind = ap (λ l. table_lines l (drop i s)) (order_drop kind_of k b)
+    opened_kind : table_lines (drop k month_form.kinds) (drop i s) ≡ table_lines (kind_of (table_at k) ∷ drop (k + 1) month_form.kinds) (drop i s)
+    opened_kind = ap (λ l. table_lines l (drop i s)) (order_drop kind_of k b)
 
-    pub table-stop : limit (table_at k) < c.count → (r : Walk)
+    pub table_stop : limit (table_at k) < c.count → (r : Walk)
         → r.answer ≡ refuse numbers.COUNT (number (table_at k)) (limit (table_at k)) → r.at ≤ length s → (after : List ℕ) → Walked s o counts_of lent r after
-    table-stop over r q p after =
+    table_stop over r q p after =
         let many : limit (table_at k) < (read_of (kind_of (table_at k)) (drop i s)).count = rw t.count_is over in
-        walk-stop counts_of refl counts_more o (table_lines (drop k month_form.kinds) (drop i s)) lent current k w s r
+        walk_stop counts_of refl counts_more o (table_lines (drop k month_form.kinds) (drop i s)) lent current k w s r
         (refuse numbers.COUNT (number (table_at k)) (limit (table_at k))) after
-        (opened-kind ∙ tables_over (kind_of (table_at k)) (drop (k + 1) month_form.kinds) (drop i s) many)
+        (opened_kind ∙ tables_over (kind_of (table_at k)) (drop (k + 1) month_form.kinds) (drop i s) many)
         q (λ e. let z : 1 ≡ 0 = sym (refuse_number numbers.COUNT (number (table_at k)) (limit (table_at k))) ∙ e in omega arith) p
 
-    pub table-next : c.count ≤ limit (table_at k)
+    pub table_next : c.count ≤ limit (table_at k)
         → Walking o (table_lines (drop (k + 1) month_form.kinds) (drop c.next s)) counts_of lent (set current k c.count) (k + 1)
-    table-next fine =
+    table_next fine =
         let few : (read_of (kind_of (table_at k)) (drop i s)).count ≤ limit (table_at k) = rw t.count_is fine in
         let one : Rows = table_of (read_of (kind_of (table_at k)) (drop i s)) in
-        walk-next counts_of refl counts_more o (table_lines (drop k month_form.kinds) (drop i s)) lent current k w (one ∷ [])
+        walk_next counts_of refl counts_more o (table_lines (drop k month_form.kinds) (drop i s)) lent current k w (one ∷ [])
         (table_lines (drop (k + 1) month_form.kinds) (drop c.next s)) (set current k c.count) (k + 1)
-        (opened-kind ∙ tables_on (kind_of (table_at k)) (drop (k + 1) month_form.kinds) (drop i s) few
+        (opened_kind ∙ tables_on (kind_of (table_at k)) (drop (k + 1) month_form.kinds) (drop i s) few
         ∙ ap (λ l. onward (table_lines (drop (k + 1) month_form.kinds) l) (λ ts u. got (one ∷ ts) u)) t.behind)
         (sym (stored_one current k c.count) ∙ ap (λ m. stored current k (m ∷ [])) (sym t.count_is))
         refl
@@ -273,23 +273,23 @@ module _ (key s : List ℕ) (i total : ℕ) (h : i ≤ length s) (current : List
     read_is : line key 1 (drop i s) ≡ found (t.line_is.fits d).0 (drop n s)
     read_is = (t.line_is.fits d).1
 
-    value-is : next ≡ (t.line_is.fits d).0
-    value-is =
+    value_is : next ≡ (t.line_is.fits d).0
+    value_is =
         let one : Line key 1 (drop i s) (t.line_is.fits d).0 (drop n s) = line_back key 1 (drop i s) (t.line_is.fits d).0 (drop n s) read_is in
         t.written ∙ ap (λ f. stored current 0 (fields_of f)) read_is
         ∙ stored_all current (t.line_is.fits d).0 (one.width_is ∙ sym one_word)
 
-    pub end-other : at next 0 ≢ total → (a : Answer) → a ≡ refuse numbers.TEXT numbers.HEAD i → Ended key s (drop i s) total a
-    end-other x a q =
+    pub end_other : at next 0 ≢ total → (a : Answer) → a ≡ refuse numbers.TEXT numbers.HEAD i → Ended key s (drop i s) total a
+    end_other x a q =
         not_fit (λ c r. ending_other (length s) key c (drop i s) (t.line_is.fits d).0 (drop n s) read_is
-        (λ e. x (ap (λ l. at l 0) value-is ∙ e ∙ r))) a q
+        (λ e. x (ap (λ l. at l 0) value_is ∙ e ∙ r))) a q
 
     ends : at next 0 ≡ total → (c : Contents) → rows_in_all c.tables ≡ total → ending (length s) key c (drop i s) ≡ closed (length s) c (drop n s)
     ends x c r =
-        ending_on (length s) key c (drop i s) (t.line_is.fits d).0 (drop n s) read_is (ap (λ l. at l 0) (sym value-is) ∙ x ∙ sym r)
+        ending_on (length s) key c (drop i s) (t.line_is.fits d).0 (drop n s) read_is (ap (λ l. at l 0) (sym value_is) ∙ x ∙ sym r)
 
-    pub end-behind : at next 0 ≡ total → n < length s → (a : Answer) → a ≡ refuse numbers.TEXT numbers.HEAD n → Ended key s (drop i s) total a
-    end-behind x b a q =
+    pub end_behind : at next 0 ≡ total → n < length s → (a : Answer) → a ≡ refuse numbers.TEXT numbers.HEAD n → Ended key s (drop i s) total a
+    end_behind x b a q =
         record {
           stopped = λ y c r. ends x c r ∙ ap (closed (length s) c) (drop_next s n b)
               ∙ ap (λ l. refused (unfit (length s) l)) (sym (drop_next s n b)) ∙ ap refused (unfit_at s n (omega arith) ∙ sym q);
@@ -297,8 +297,8 @@ module _ (key s : List ℕ) (i total : ℕ) (h : i ≤ length s) (current : List
           none = λ z. absurd (text_refuses n a q z);
         }
 
-    pub end-fine : at next 0 ≡ total → length s ≤ n → (a : Answer) → a ≡ accepted → Ended key s (drop i s) total a
-    end-fine x b a q =
+    pub end_fine : at next 0 ≡ total → length s ≤ n → (a : Answer) → a ≡ accepted → Ended key s (drop i s) total a
+    end_fine x b a q =
         record {
           stopped = λ y. absurd (y (ap (λ (r : Answer). r.number) q));
           went_on = λ z c r. ends x c r ∙ ap (closed (length s) c) (drop_end s n b);

@@ -44,13 +44,13 @@ module _ (text : List ℕ) (lent : Tables) (room : Answer) (r : room ≡ read_ro
       }
 
   module _ (z : room.number ≡ 0) (held : Reading) (body : ℕ) (j : TextJudged text held body) where
-    by-text : read_outcome text lent ≡ reading month_form text
+    by_text : read_outcome text lent ≡ reading month_form text
     unfolding read_outcome
-    by-text = rw (eq-eqb (read_room lent).number 0 (room_number ∙ z))
+    by_text = rw (eq-eqb (read_room lent).number 0 (room_number ∙ z))
 
-    pub read-refused : held.answer.number ≢ 0 → (r : Reading) → r ≡ read_answer (refused held.answer) → Reads text lent lent r
-    read-refused d r q =
-        let outcome : read_outcome text lent ≡ refused held.answer = by-text ∙ j.stopped d in
+    pub read_refused : held.answer.number ≢ 0 → (r : Reading) → r ≡ read_answer (refused held.answer) → Reads text lent lent r
+    read_refused d r q =
+        let outcome : read_outcome text lent ≡ refused held.answer = by_text ∙ j.stopped d in
         record {
           answers = q ∙ ap read_answer (sym outcome);
           stores = nothing_filled lent ∙ ap (λ o. filled lent (tables_in o)) (sym outcome);
@@ -60,30 +60,30 @@ module _ (text : List ℕ) (lent : Tables) (room : Answer) (r : room ≡ read_ro
       holds : Body text body (reading month_form text)
       holds = j.holds y
 
-      held-is : held ≡ read_answer (got holds.contents [])
-      held-is = j.answers y ∙ ap read_answer holds.whole
+      held_is : held ≡ read_answer (got holds.contents [])
+      held_is = j.answers y ∙ ap read_answer holds.whole
 
-      pub read-ready : (counts : List ℕ) → counts ≡ held.counts → Ready text body counts lent
+      pub read_ready : (counts : List ℕ) → counts ≡ held.counts → Ready text body counts lent
       unfolding read_room
-      read-ready counts e =
+      read_ready counts e =
           record {
             ts = holds.contents.tables;
             rest = holds.rest;
             inside = holds.inside;
             read = holds.held;
             counted = λ table.
-                ap (λ l. at l (place_of table)) (e ∙ ap (λ (h : Reading). h.counts) held-is)
+                ap (λ l. at l (place_of table)) (e ∙ ap (λ (h : Reading). h.counts) held_is)
                 ∙ at_counts holds.contents.tables (place_of table);
             room = λ table.
                 room_fits (number table) (limit table * width table) (length (words_of lent table))
                 (in_turn_all (λ table. full_size table (length (words_of lent table))) (room_number ∙ z) table);
           }
 
-      pub read-filled : (after : Tables) → FilledFrom text body lent after → Reads text lent after held
-      read-filled after f =
+      pub read_filled : (after : Tables) → FilledFrom text body lent after → Reads text lent after held
+      read_filled after f =
           record {
-            answers = j.answers y ∙ ap read_answer (sym by-text);
+            answers = j.answers y ∙ ap read_answer (sym by_text);
             stores =
                 f.fills holds.contents.tables holds.rest holds.held
-                ∙ ap (λ o. filled lent (tables_in o)) (sym (by-text ∙ holds.whole));
+                ∙ ap (λ o. filled lent (tables_in o)) (sym (by_text ∙ holds.whole));
           }

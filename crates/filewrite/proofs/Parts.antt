@@ -52,21 +52,21 @@ module _ (head : Head) (t : Tables) (lent : List ℕ) (counts : Answer) (judged 
     by_room : write_answer head t (length lent) ≡ room_for answers.HEAD (length (month_text head t)) (length lent)
     by_room = refusal_is ∙ then_second counts (room_for answers.HEAD (length (month_text head t)) (length lent)) z
 
-    pub write-short : length lent < size → (a : Answer) → a ≡ refuse answers.ROOM answers.HEAD 0 → Writes head t lent lent (record { answer = a; length = 0 })
-    write-short h a e =
+    pub write_short : length lent < size → (a : Answer) → a ≡ refuse answers.ROOM answers.HEAD 0 → Writes head t lent lent (record { answer = a; length = 0 })
+    write_short h a e =
         let short : length lent < length (month_text head t) =
         (let q : size ≡ min (0 + length (month_text head t)) (length lent + 1) = s.capped in omega arith) in
         refuses a (e ∙ room_short answers.HEAD (length (month_text head t)) (length lent) short ∙ sym by_room)
         (λ q. let y : 2 ≡ 0 = sym (ap (λ (b : Answer). b.number) e ∙ refuse_number answers.ROOM answers.HEAD 0) ∙ q in omega arith)
 
-    pub write-fits : size ≤ length lent → 0 + length (month_text head t) ≤ length lent
-    write-fits h = let q : size ≡ min (0 + length (month_text head t)) (length lent + 1) = s.capped in omega arith
+    pub write_fits : size ≤ length lent → 0 + length (month_text head t) ≤ length lent
+    write_fits h = let q : size ≡ min (0 + length (month_text head t)) (length lent + 1) = s.capped in omega arith
 
-    pub write-fine : size ≤ length lent → (a : Answer) → a ≡ refuse 0 answers.HEAD 0 → (n : ℕ) (after : List ℕ) → PutAt lent 0 (month_text head t) n after
+    pub write_fine : size ≤ length lent → (a : Answer) → a ≡ refuse 0 answers.HEAD 0 → (n : ℕ) (after : List ℕ) → PutAt lent 0 (month_text head t) n after
         → Writes head t lent after (record { answer = a; length = n })
-    write-fine h a e n after p =
+    write_fine h a e n after p =
         let room : room_for answers.HEAD (length (month_text head t)) (length lent) ≡ accepted =
-        sym (room_enough answers.HEAD (length (month_text head t)) (length lent) (omega (arith, write-fits h))) ∙ refuse_none 0 answers.HEAD 0 refl in
+        sym (room_enough answers.HEAD (length (month_text head t)) (length lent) (omega (arith, write_fits h))) ∙ refuse_none 0 answers.HEAD 0 refl in
         let fine : write_answer head t (length lent) ≡ accepted = by_room ∙ room in
         let all : text_written head t (length lent) ≡ month_text head t = all_written head t (length lent) (ap (λ (a : Answer). a.number) fine) in
         record {

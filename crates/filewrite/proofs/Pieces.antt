@@ -92,11 +92,11 @@ module _ {from : ℕ → List ℕ} {most : ℕ} {lent : List ℕ} {at : ℕ} {ou
     length_next : length (from k) ≡ length piece + length (from (k + 1))
     length_next = ap length p.splits ∙ length-append piece (from (k + 1))
 
-    pub putting-fits : i + length piece ≤ length out
-    putting-fits = let room : i + length (from k) ≤ length out = w.room in omega (arith, length_next)
+    pub putting_fits : i + length piece ≤ length out
+    putting_fits = let room : i + length (from k) ≤ length out = w.room in omega (arith, length_next)
 
-    pub putting-next : k < most → (n : ℕ) (after : List ℕ) → PutAt out i piece n after → length after ≡ length out → Putting from most lent at after n (k + 1)
-    putting-next h n after put size =
+    pub putting_next : k < most → (n : ℕ) (after : List ℕ) → PutAt out i piece n after → length after ≡ length out → Putting from most lent at after n (k + 1)
+    putting_next h n after put size =
         let room : i + length (from k) ≤ length out = w.room in
         record {
           within = omega arith;

@@ -23,11 +23,11 @@ use Rattle.groups.specs.Columns.{Addable, Added, MembersKept}
 module _ {pot : ℕ} {weights lent after : List ℕ} {d : Division} (made : Divided pot weights lent after d)
     (few : length weights ≤ most_weights) (long : length weights ≤ length lent)
   where
-    pub number-by-size : d.answer.number ≡ size_refusal pot (total weights)
-    number-by-size = made.number ∙ by_size pot weights (length lent) few long
+    pub number_by_size : d.answer.number ≡ size_refusal pot (total weights)
+    number_by_size = made.number ∙ by_size pot weights (length lent) few long
 
-    pub refused-adds-none : (column : List ℕ) → d.answer.number ≢ 0 → Added pot weights column column d.answer.number
-    refused-adds-none column bad = record { number = number-by-size; lent = rw (ne_eqb d.answer.number 0 bad) }
+    pub refused_adds_none : (column : List ℕ) → d.answer.number ≢ 0 → Added pot weights column column d.answer.number
+    refused_adds_none column bad = record { number = number_by_size; lent = rw (ne_eqb d.answer.number 0 bad) }
 
     module _ (fine : d.answer.number ≡ 0) where
       front : take (length weights) after ≡ shares pot weights
@@ -36,28 +36,28 @@ module _ {pot : ℕ} {weights lent after : List ℕ} {d : Division} (made : Divi
           ∙ take_at (shares pot weights) (drop (length weights) lent) (length weights) (length_shares pot weights)
 
       -- each share stands in its word
-      pub share-written : (i : ℕ) → i < length weights → at after i ≡ at (shares pot weights) i
-      share-written i b = sym (get_or-take (length weights) after i 0 b) ∙ ap (λ l. at l i) front
+      pub share_written : (i : ℕ) → i < length weights → at after i ≡ at (shares pot weights) i
+      share_written i b = sym (get_or-take (length weights) after i 0 b) ∙ ap (λ l. at l i) front
 
       pub front_long : length (take (length weights) after) ≡ length weights
       front_long = ap length front ∙ length_shares pot weights
 
-      pub ready-to-add : (column : List ℕ) → Addable (length weights) column
+      pub ready_to_add : (column : List ℕ) → Addable (length weights) column
           → (length (take (length weights) after) ≤ length column)
           × ((i : ℕ) → i < length (take (length weights) after) → at column i + at (take (length weights) after) i < 2 ^ 64)
-      ready-to-add column a = (
+      ready_to_add column a = (
         le_trans (omega (arith, front_long)) a.long,
         (λ i b.
             let share : at (take (length weights) after) i ≡ at (shares pot weights) i = ap (λ l. at l i) front in
-            omega (arith, a.room i (omega (arith, front_long)), share_fits pot weights (sym number-by-size ∙ fine) i)),
+            omega (arith, a.room i (omega (arith, front_long)), share_fits pot weights (sym number_by_size ∙ fine) i)),
       )
 
-      pub accepted-adds : (column added : List ℕ)
+      pub accepted_adds : (column added : List ℕ)
           → added ≡ put (length (take (length weights) after)) (λ i. at column i + at (take (length weights) after) i) column
           → Added pot weights column added 0
-      accepted-adds column added e =
+      accepted_adds column added e =
           record {
-            number = sym fine ∙ number-by-size;
+            number = sym fine ∙ number_by_size;
             lent = e ∙ ap₂ (λ n l. put n (λ i. at column i + at l i) column) front_long front;
           }
 
@@ -65,10 +65,10 @@ module _ {pot : ℕ} {weights lent after : List ℕ} {d : Division} (made : Divi
 module _ {weights groups : List ℕ} {group : ℕ} {lent after : List ℕ} (kept : MembersKept weights groups group lent after)
     (long : length weights ≤ length lent)
   where
-    pub kept-front : take (length weights) after ≡ among (length weights) (at groups) (at weights) group
+    pub kept_front : take (length weights) after ≡ among (length weights) (at groups) (at weights) group
     unfolding among
-    kept-front = ap (take (length weights)) kept.lent ∙ take_put (length weights) _ lent long
+    kept_front = ap (take (length weights)) kept.lent ∙ take_put (length weights) _ lent long
 
-    pub kept-long : length (take (length weights) after) ≡ length weights
+    pub kept_long : length (take (length weights) after) ≡ length weights
     unfolding among
-    kept-long = ap length kept-front ∙ length_listed (length weights) _
+    kept_long = ap length kept_front ∙ length_listed (length weights) _

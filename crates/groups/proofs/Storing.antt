@@ -45,8 +45,8 @@ module _ {n : ℕ} {f : ℕ → ℕ} {answer : Answer} {sums : List ℕ} {r : An
   written_none bad before = record { answers = m.answers; lent = rw (ne_eqb r.number 0 bad) }
 
   module _ (fine : r.number ≡ 0) where
-    pub made-long : length (take n sums) ≡ n
-    made-long = length-take-le n sums (m.long fine)
+    pub made_long : length (take n sums) ≡ n
+    made_long = length-take-le n sums (m.long fine)
 
     pub written_all : (before after : List ℕ) → after ≡ put (length (take n sums)) (at (take n sums)) before → ColumnWritten n f answer before after r
     written_all before after e =
@@ -54,7 +54,7 @@ module _ {n : ℕ} {f : ℕ → ℕ} {answer : Answer} {sums : List ℕ} {r : An
           answers = m.answers;
           lent =
               e
-              ∙ ap (λ k. put k (at (take n sums)) before) made-long
+              ∙ ap (λ k. put k (at (take n sums)) before) made_long
               ∙ put_eq n (at (take n sums)) f before (λ i b. get_or-take n sums i 0 b ∙ m.values fine i b)
               ∙ (rw (eq-eqb r.number 0 fine));
         }

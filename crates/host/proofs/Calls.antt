@@ -84,8 +84,8 @@ module _ (pot : ℕ) (weights amounts : List ℕ) where
           let words : length (numbers weights) ≡ length weights / 8 = length_numbers weights in
           omega arith
 
-      pub shares-first : r.answer.number ≡ 0 → (rest : List ℕ) → take (length weights / 8) (out' ++ rest) ≡ shares pot (numbers weights)
-      shares-first e rest =
+      pub shares_first : r.answer.number ≡ 0 → (rest : List ℕ) → take (length weights / 8) (out' ++ rest) ≡ shares pot (numbers weights)
+      shares_first e rest =
           ap (λ l. take (length weights / 8) (l ++ rest)) (made.lent ∙ laws.memory_accepted pot (numbers weights) out (sym made.number ∙ e))
           ∙ ap (take (length weights / 8)) (append_assoc (shares pot (numbers weights)) (drop (length (numbers weights)) out) rest)
           ∙ take_at (shares pot (numbers weights)) (drop (length (numbers weights)) out ++ rest) (length weights / 8)

@@ -144,5 +144,5 @@ divisions_pass pot weights before after r d z =
     (verdicts.divisions_pass pot (numbers weights) (length before / 8) (reading.looked pot weights before accepted).1) in
     ap (λ l. host_verdict pot weights (take (length weights) l)) d.lent
     ∙ judged pot weights first
-    (record { these_whole = even; those_whole = ap (λ n. n % 8) (reading.as-many-bytes pot weights before accepted) ∙ even })
+    (record { these_whole = even; those_whole = ap (λ n. n % 8) (reading.as_many_bytes pot weights before accepted) ∙ even })
     ∙ yes_word (verdict pot (numbers weights) (numbers first)) shared

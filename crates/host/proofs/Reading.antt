@@ -62,37 +62,37 @@ module _ (pot : ℕ) (weights amounts : List ℕ) where
         ∙ ap (λ n. 8 * n) (laws.length_shares pot (numbers weights) ∙ length_numbers weights)
         ∙ (let all : 8 * (length weights / 8) ≡ length weights = omega (arith, whole.these_whole) in all)
 
-    memory-is : host_memory pot weights amounts ≡ bytes_of (shares pot (numbers weights)) ++ drop (length weights) amounts
+    memory_is : host_memory pot weights amounts ≡ bytes_of (shares pot (numbers weights)) ++ drop (length weights) amounts
     unfolding host_memory
-    memory-is =
+    memory_is =
         ap (λ t. cond t (bytes_of (shares pot (numbers weights)) ++ drop (length weights) amounts) amounts)
         (eq-eqb (host_divide_refusal pot weights amounts) 0 e)
 
-    first-bytes : take (length weights) (host_memory pot weights amounts) ≡ bytes_of (shares pot (numbers weights))
-    first-bytes =
-        ap (take (length weights)) memory-is
+    first_bytes : take (length weights) (host_memory pot weights amounts) ≡ bytes_of (shares pot (numbers weights))
+    first_bytes =
+        ap (take (length weights)) memory_is
         ∙ take_at (bytes_of (shares pot (numbers weights))) (drop (length weights) amounts) (length weights) long
 
-    pub as-many-bytes : length (take (length weights) (host_memory pot weights amounts)) ≡ length weights
-    as-many-bytes = ap length first-bytes ∙ long
+    pub as_many_bytes : length (take (length weights) (host_memory pot weights amounts)) ≡ length weights
+    as_many_bytes = ap length first_bytes ∙ long
 
     pub shares_in_bytes : numbers (take (length weights) (host_memory pot weights amounts)) ≡ shares pot (numbers weights)
     shares_in_bytes =
         let good = laws.divide_accepted pot (numbers weights) (length amounts / 8) looked.1 in
-        ap numbers first-bytes
+        ap numbers first_bytes
         ∙ numbers_bytes (shares pot (numbers weights))
         (λ i b. let small = laws.share_within pot (numbers weights) good.2.has_base i in omega (arith, small, good.2.pot_fits))
 
     behind : drop (length weights) (host_memory pot weights amounts) ≡ drop (length weights) amounts
     behind =
-        ap (drop (length weights)) memory-is
+        ap (drop (length weights)) memory_is
         ∙ drop_at (bytes_of (shares pot (numbers weights))) (drop (length weights) amounts) (length weights) long
 
     same_length : length (host_memory pot weights amounts) ≡ length amounts
     same_length =
         let room : length (numbers weights) ≤ length amounts / 8 =
         (laws.divide_accepted pot (numbers weights) (length amounts / 8) looked.1).1 in
-        ap length memory-is
+        ap length memory_is
         ∙ length-append (bytes_of (shares pot (numbers weights))) (drop (length weights) amounts)
         ∙ (let sum : length (bytes_of (shares pot (numbers weights))) + length (drop (length weights) amounts) ≡ length amounts =
         omega (arith, long, length-drop (length weights) amounts, length_numbers weights, whole.these_whole) in sum)

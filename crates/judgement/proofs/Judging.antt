@@ -22,7 +22,7 @@ use Rattle.rows.specs.Rows.{row_of}
 use Rattle.tables.specs.Counts.{counted, counts_in_turn, room_for, GoodCount}
 use Rattle.judgement.specs.Judgement.{head_outside, head_looked, head_judged, rows_judged, judged}
 use Rattle.judgement.specs.Good.{GoodRow, GoodTable, Roomy, GoodFrame, GoodMonth}
-use Rattle.judgement.specs.Refused.{FirstBroken, by-range, by_order, by-link, by-pair, Refused, by_count, by-charges, by-credits, by-month, by-head, by_row}
+use Rattle.judgement.specs.Refused.{FirstBroken, by_range, by_order, by_link, by_pair, Refused, by_count, by_charges, by_credits, by_month, by_head, by_row}
 use Rattle.tables.proofs.Tests.{at_least}
 use Rattle.judgement.proofs.Keeping.{count_tested}
 use Rattle.judgement.proofs.Rulings.{head_range, Ruling, fine, broken, row_ruled}
@@ -57,14 +57,14 @@ module _ (head : Head) (t : Tables) (lent_charges lent_credits : ℕ) where
   unfolding room_for
   charges_room_lem all =
       look_stage ROOM CHARGES 0 (omega arith) (at_least (rows Accounts t.accounts * charge_width) lent_charges)
-      (λ short. by-charges refl all (omega arith))
+      (λ short. by_charges refl all (omega arith))
 
   credits_room_lem : ((table : Table) → GoodCount t table) → rows Accounts t.accounts * charge_width ≤ lent_charges → Stage (Roomy t lent_charges lent_credits) Why (room_for CREDITS (rows Owners t.owners * credit_width) lent_credits)
   unfolding room_for
   credits_room_lem all fit =
       passed_on (λ fit₂. record { charges_fit = fit; credits_fit = fit₂ })
       (look_stage ROOM CREDITS 0 (omega arith) (at_least (rows Owners t.owners * credit_width) lent_credits)
-      (λ short. by-credits refl all fit (omega arith)))
+      (λ short. by_credits refl all fit (omega arith)))
 
   no_month : is_month head.month head.days ≡ false → ¬ InCalendar head.month head.days
   no_month e known = true≢false (sym ((month_exactly head.month head.days).1 known) ∙ e)
@@ -74,11 +74,11 @@ module _ (head : Head) (t : Tables) (lent_charges lent_credits : ℕ) where
   frame all roomy = go (is_month head.month head.days) refl
     where
       go : (m : Bool) → is_month head.month head.days ≡ m → Stage (GoodFrame head t lent_charges lent_credits) Why (refuse (look (not m) MONTH (look (head_outside head) RANGE 0)) numbers.HEAD 0)
-      go false e = refuse_stage MONTH numbers.HEAD 0 (λ z. absurd (omega arith)) (λ d. by-month refl all roomy (no_month e))
+      go false e = refuse_stage MONTH numbers.HEAD 0 (λ z. absurd (omega arith)) (λ d. by_month refl all roomy (no_month e))
       go true e =
           let known = (month_exactly head.month head.days).0 e in
           passed_on (λ w. record { counted = all; roomy = roomy; month_known = known; head_in_range = w })
-          (look_stage RANGE numbers.HEAD 0 (omega arith) (head_range head) (by-head refl all roomy known))
+          (look_stage RANGE numbers.HEAD 0 (omega arith) (head_range head) (by_head refl all roomy known))
 
   table_rows : GoodFrame head t lent_charges lent_credits → (table : Table) → ((earlier : Table) → place_of earlier < place_of table → GoodTable head.days t earlier) → Stage (GoodTable head.days t table) Why (rows_judged head.days t table)
   unfolding rows_judged
@@ -93,9 +93,9 @@ module _ (head : Head) (t : Tables) (lent_charges lent_credits : ℕ) where
       (by_row table a.row a.number (ap (λ k. refusal a.number k a.row) at.at_table)
       (record {
         frame = good;
-        earlier-tables = before;
+        earlier_tables = before;
         is_row = at.at_row;
-        earlier-rows = λ j h. row_good head.days t table j (at.earlier_fine j h);
+        earlier_rows = λ j h. row_good head.days t table j (at.earlier_fine j h);
         broken = row_broken head.days t table a.row a.number at.its_number d;
       })))
       (zero_or_not a.number)
@@ -130,15 +130,15 @@ module _ (head : Head) (t : Tables) (lent_charges lent_credits : ℕ) where
 
   -- what is refused with MONTH is no month
   broken_not_month : (table : Table) (i n : ℕ) → FirstBroken head.days t table i n → n ≢ MONTH
-  broken_not_month table i n (by-range e out) z = omega arith
+  broken_not_month table i n (by_range e out) z = omega arith
   broken_not_month table i n (by_order e r not_above_lem) z = omega arith
-  broken_not_month table i n (by-link e r o missing) z = omega arith
-  broken_not_month table i n (by-pair e r o l taken) z = omega arith
+  broken_not_month table i n (by_link e r o missing) z = omega arith
+  broken_not_month table i n (by_pair e r o l taken) z = omega arith
 
   pub month_why : (a : Answer) → Why a → a.number ≡ MONTH → ¬ InCalendar head.month head.days
   month_why a (by_count table e before short) z = absurd (omega (arith, ap (λ (b : Answer). b.number) e))
-  month_why a (by-charges e all short) z = absurd (omega (arith, ap (λ (b : Answer). b.number) e))
-  month_why a (by-credits e all fit short) z = absurd (omega (arith, ap (λ (b : Answer). b.number) e))
-  month_why a (by-month e all roomy bad) z = bad
-  month_why a (by-head e all roomy known out) z = absurd (omega (arith, ap (λ (b : Answer). b.number) e))
+  month_why a (by_charges e all short) z = absurd (omega (arith, ap (λ (b : Answer). b.number) e))
+  month_why a (by_credits e all fit short) z = absurd (omega (arith, ap (λ (b : Answer). b.number) e))
+  month_why a (by_month e all roomy bad) z = bad
+  month_why a (by_head e all roomy known out) z = absurd (omega (arith, ap (λ (b : Answer). b.number) e))
   month_why a (by_row table i n e at) z = absurd (broken_not_month table i n at.broken (sym (ap (λ (b : Answer). b.number) e) ∙ z))

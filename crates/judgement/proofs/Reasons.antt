@@ -25,7 +25,7 @@ use Rattle.tables.proofs.Stages.{Stage, passed, stopped, first_broken, in_turn_s
 use Rattle.rows.specs.Rows.{row_of}
 use Rattle.judgement.specs.Judgement.{head_looked, head_judged, rows_judged, judged}
 use Rattle.judgement.specs.Good.{GoodTable, HeadInRange, Roomy, GoodFrame, GoodMonth}
-use Rattle.judgement.specs.Refused.{RowRefused, Refused, by_count, by-charges, by-credits, by-month, by-head, by_row}
+use Rattle.judgement.specs.Refused.{RowRefused, Refused, by_count, by_charges, by_credits, by_month, by_head, by_row}
 use Rattle.judgement.proofs.Keeping.{faulty, count_tested}
 use Rattle.judgement.proofs.Rulings.{head_range, row_fine, row_number, broken_number}
 use Rattle.judgement.proofs.Judging.{judged_why}
@@ -161,7 +161,7 @@ module _ (head : Head) (t : Tables) (lent_charges lent_credits : ℕ) where
   row_stops table i n why d =
       let its : row_of head.days t table i ≡ n = row_number head.days t table i n why.broken in
       first_at (number table) (row_of head.days t table) _ i why.is_row
-      (λ j b. row_fine head.days t table j (why.earlier-rows j b)) (λ z. d (sym its ∙ z))
+      (λ j b. row_fine head.days t table j (why.earlier_rows j b)) (λ z. d (sym its ∙ z))
       ∙ ap (λ k. refuse k (number table) i) its
       ∙ refuse_some n (number table) i d
 
@@ -170,10 +170,10 @@ module _ (head : Head) (t : Tables) (lent_charges lent_credits : ℕ) where
 
   pub why_number : (a : Answer) → Why a → a.number ≢ 0
   why_number a (by_count table e before short) z = omega (arith, ap (λ (b : Answer). b.number) e)
-  why_number a (by-charges e all short) z = omega (arith, ap (λ (b : Answer). b.number) e)
-  why_number a (by-credits e all fit short) z = omega (arith, ap (λ (b : Answer). b.number) e)
-  why_number a (by-month e all roomy bad) z = omega (arith, ap (λ (b : Answer). b.number) e)
-  why_number a (by-head e all roomy known out) z = omega (arith, ap (λ (b : Answer). b.number) e)
+  why_number a (by_charges e all short) z = omega (arith, ap (λ (b : Answer). b.number) e)
+  why_number a (by_credits e all fit short) z = omega (arith, ap (λ (b : Answer). b.number) e)
+  why_number a (by_month e all roomy bad) z = omega (arith, ap (λ (b : Answer). b.number) e)
+  why_number a (by_head e all roomy known out) z = omega (arith, ap (λ (b : Answer). b.number) e)
   why_number a (by_row table i n e why) z = broken_number head.days t table i n why.broken (sym (ap (λ (b : Answer). b.number) e) ∙ z)
 
   pub why_judged : (a : Answer) → Why a → judged head t lent_charges lent_credits ≡ a
@@ -184,16 +184,16 @@ module _ (head : Head) (t : Tables) (lent_charges lent_credits : ℕ) where
       go (by_count table e before short) d =
           then_stays d all_rows (then_stays d head_read (then_stays d credits_room (then_stays d charges_room
           (table_stops count_of count_zero table a (λ earlier l. count_passes earlier (before earlier l)) (count_stops table short ∙ sym e) d))))
-      go (by-charges e all short) d =
+      go (by_charges e all short) d =
           then_stays d all_rows (then_stays d head_read (then_stays d credits_room (then_on (counts_pass all) (room_stops CHARGES _ lent_charges short ∙ sym e))))
-      go (by-credits e all fit short) d =
+      go (by_credits e all fit short) d =
           then_stays d all_rows
           (then_stays d head_read (then_on (then_on (counts_pass all) (room_passes CHARGES _ lent_charges fit)) (room_stops CREDITS _ lent_credits short ∙ sym e)))
-      go (by-month e all roomy bad) d = then_stays d all_rows (then_on (before_head all roomy) (no_month bad ∙ sym e))
-      go (by-head e all roomy known out) d = then_stays d all_rows (then_on (before_head all roomy) (head_stops known out ∙ sym e))
+      go (by_month e all roomy bad) d = then_stays d all_rows (then_on (before_head all roomy) (no_month bad ∙ sym e))
+      go (by_head e all roomy known out) d = then_stays d all_rows (then_on (before_head all roomy) (head_stops known out ∙ sym e))
       go (by_row table i n e why) d =
           then_on (then_on (before_head why.frame.counted why.frame.roomy) (head_passes why.frame))
-          (table_stops (rows_judged head.days t) rows_zero table a (λ earlier l. rows_pass earlier (why.earlier-tables earlier l))
+          (table_stops (rows_judged head.days t) rows_zero table a (λ earlier l. rows_pass earlier (why.earlier_tables earlier l))
           (row_stops table i n why (broken_number head.days t table i n why.broken) ∙ sym e) d)
 
   pub judged_exactly : (a : Answer) → Why a ↔ ((judged head t lent_charges lent_credits ≡ a) × (a.number ≢ 0))

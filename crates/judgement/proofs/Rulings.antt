@@ -41,7 +41,7 @@ use Rattle.tables.specs.Columns.{
 use Rattle.rows.specs.Rows.{row_number, not_above, zone_outside, owner_outside, unit_outside, account_outside, load_outside, reservation_outside, firm_outside, row_outside, row_above, row_unlinked, row_taken, row_of}
 use Rattle.judgement.specs.Good.{ZoneInRange, OwnerInRange, UnitInRange, AccountInRange, LoadInRange, ReservationInRange, FirmInRange, InRange, Ascending, Linked, Unpaired, GoodRow, HeadInRange}
 use Rattle.judgement.specs.Judgement.{head_outside}
-use Rattle.judgement.specs.Refused.{FirstBroken, by-range, by_order, by-link, by-pair}
+use Rattle.judgement.specs.Refused.{FirstBroken, by_range, by_order, by_link, by_pair}
 use Rattle.tables.proofs.Tests.{Tests, breaks, reworded, no_rule, also, both}
 use Rattle.judgement.proofs.Keeping.{faulty, within, reserve, first_day, above_before, above_tested, known, unless_zero, own_pair}
 
@@ -161,12 +161,12 @@ module _ (days : ℕ) (t : Tables) (table : Table) (i : ℕ) where
   -- four tests of a row's four rules, looked at in turn
   ruled : {range order link pair : Bool} → Tests (InRange days t table i) range → Tests (Ascending t table i) order → Tests (Linked t table i) link → Tests (Unpaired t table i) pair → Ruling days t table i (row_number range order link pair)
   unfolding row_number
-  ruled {range = true} {order} {link} {pair} r o l p = broken (omega arith) (by-range refl (breaks r refl))
+  ruled {range = true} {order} {link} {pair} r o l p = broken (omega arith) (by_range refl (breaks r refl))
   ruled {range = false} {order = true} {link} {pair} r o l p = broken (omega arith) (by_order refl (r.holds refl) (breaks o refl))
   ruled {range = false} {order = false} {link = true} {pair} r o l p =
-      broken (omega arith) (by-link refl (r.holds refl) (o.holds refl) (breaks l refl))
+      broken (omega arith) (by_link refl (r.holds refl) (o.holds refl) (breaks l refl))
   ruled {range = false} {order = false} {link = false} {pair = true} r o l p =
-      broken (omega arith) (by-pair refl (r.holds refl) (o.holds refl) (l.holds refl) (breaks p refl))
+      broken (omega arith) (by_pair refl (r.holds refl) (o.holds refl) (l.holds refl) (breaks p refl))
   ruled {range = false} {order = false} {link = false} {pair = false} r o l p =
       fine refl (record { in_range = r.holds refl; ascending = o.holds refl; linked = l.holds refl; unpaired = p.holds refl })
 
@@ -202,10 +202,10 @@ module _ (days : ℕ) (t : Tables) (table : Table) (i : ℕ) where
   numbered : {range order link pair : Bool} (n : ℕ) → Tests (InRange days t table i) range → Tests (Ascending t table i) order → Tests (Linked t table i) link → Tests (Unpaired t table i) pair
       → FirstBroken days t table i n → row_number range order link pair ≡ n
   unfolding row_number
-  numbered n r o l p (by-range e out) = rw (faulty r out) (sym e)
+  numbered n r o l p (by_range e out) = rw (faulty r out) (sym e)
   numbered n r o l p (by_order e g out) = rw (r.kept g, faulty o out) (sym e)
-  numbered n r o l p (by-link e g h out) = rw (r.kept g, o.kept h, faulty l out) (sym e)
-  numbered n r o l p (by-pair e g h k out) = rw (r.kept g, o.kept h, l.kept k, faulty p out) (sym e)
+  numbered n r o l p (by_link e g h out) = rw (r.kept g, o.kept h, faulty l out) (sym e)
+  numbered n r o l p (by_pair e g h k out) = rw (r.kept g, o.kept h, l.kept k, faulty p out) (sym e)
 
   pub row_number : (n : ℕ) → FirstBroken days t table i n → row_of days t table i ≡ n
   unfolding row_of
@@ -222,7 +222,7 @@ module _ (days : ℕ) (t : Tables) (table : Table) (i : ℕ) where
       )
 
   pub broken_number : (n : ℕ) → FirstBroken days t table i n → n ≢ 0
-  broken_number n (by-range e out) z = omega arith
+  broken_number n (by_range e out) z = omega arith
   broken_number n (by_order e r not_above_lem) z = omega arith
-  broken_number n (by-link e r o missing) z = omega arith
-  broken_number n (by-pair e r o l taken) z = omega arith
+  broken_number n (by_link e r o missing) z = omega arith
+  broken_number n (by_pair e r o l taken) z = omega arith

@@ -54,18 +54,18 @@ accepted_texts = contents.accepted_texts
 module _ (text : List ℕ) (lent after : Tables) (r : Reading) (reads : Reads text lent after r) where
   -- a refused read answers zeros for the head and the rows, changes no lent word, and says why: ROOM, TEXT or COUNT
   pub refused_read : r.answer.number ≢ 0 → (r ≡ read_answer (refused r.answer)) × (after ≡ lent) × ReadRefused text lent r.answer
-  refused_read = read_calls.read-refused text lent after r reads
+  refused_read = read_calls.read_refused text lent after r reads
 
   -- a read answers a refusal exactly when its reason is so: nothing else is refused, and no reason is passed over
   pub refused_read_exactly : (a : Answer) → ReadRefused text lent a ↔ ((r.answer ≡ a) × (a.number ≢ 0))
-  refused_read_exactly = read_calls.read-refused-exactly text lent after r reads
+  refused_read_exactly = read_calls.read_refused_exactly text lent after r reads
 
   -- an accepted read has the text of some tables within the limits, answers their head and how many rows each has, and has these rows at
   -- each lent table's front and behind them what was lent
   pub accepted_read : r.answer.number ≡ 0
       → (c : Contents) × ContentsFit month_form c × (text ≡ file_text month_form c) × (r ≡ read_answer (got c []))
       × ((table : Table) → words_of after table ≡ at_front (nth c.tables (place_of table)).words (words_of lent table))
-  accepted_read = read_calls.read-accepted text lent after r reads
+  accepted_read = read_calls.read_accepted text lent after r reads
 
   -- the text of tables within the limits is never refused where the tables are lent at full size
   pub good_read : ((table : Table) → Full lent table) → (c : Contents) → ContentsFit month_form c → text ≡ file_text month_form c → r ≡ read_answer (got c [])
@@ -74,15 +74,15 @@ module _ (text : List ℕ) (lent after : Tables) (r : Reading) (reads : Reads te
 module _ (head : Head) (t : Tables) (lent after : List ℕ) (r : Written) (writes : Writes head t lent after r) where
   -- a refused write answers 0 as the length, changes no lent byte, and says why: COUNT or ROOM
   pub refused_write : r.answer.number ≢ 0 → (r.length ≡ 0) × (after ≡ lent) × WriteRefused head t (length lent) r.answer
-  refused_write = write_calls.write-refused head t lent after r writes
+  refused_write = write_calls.write_refused head t lent after r writes
 
   -- a write answers a refusal exactly when its reason is so
   pub refused_write_exactly : (a : Answer) → WriteRefused head t (length lent) a ↔ ((r.answer ≡ a) × (a.number ≢ 0))
-  refused_write_exactly = write_calls.write-refused-exactly head t lent after r writes
+  refused_write_exactly = write_calls.write_refused_exactly head t lent after r writes
 
   -- an accepted write answers the text's length, and has the text at the front and behind it what was lent
   pub accepted_write : r.answer.number ≡ 0 → (r.length ≡ length (month_text head t)) × (after ≡ at_front (month_text head t) lent)
-  accepted_write = write_calls.write-accepted head t lent after r writes
+  accepted_write = write_calls.write_accepted head t lent after r writes
 
   -- tables of whole rows within their limits are never refused where there is room for their text
   pub good_write : ((table : Table) → GoodCount t table) → length (month_text head t) ≤ length lent → r.answer ≡ accepted

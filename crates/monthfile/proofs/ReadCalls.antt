@@ -33,7 +33,7 @@ use Rattle.fileread.specs.declared.Reading.{Reading}
 use Rattle.fileread.specs.Calls.{full_size, read_room, read_outcome, read_answer, tables_in, filled, Reads}
 use Rattle.fileread.proofs.Parts.{nothing_filled}
 use Rattle.monthfile.specs.Front.{at_front}
-use Rattle.monthfile.specs.Refused.{Full, ReadRefused, by_room, by-text, by_count}
+use Rattle.monthfile.specs.Refused.{Full, ReadRefused, by_room, by_text, by_count}
 
 -- COUNT of one of the tables
 table_over : (text : List ℕ) (a : Answer) → AtLimit month_form text a
@@ -78,11 +78,11 @@ module _ (text : List ℕ) (lent : Tables) where
 
   -- tables of full size have the text read
   pub outcome_full : ((table : Table) → Full lent table) → read_outcome text lent ≡ reading month_form text
-  outcome_full full = outcome_read (room-passed rooms)
+  outcome_full full = outcome_read (room_passed rooms)
     where
-      room-passed : RoomLooked → read_room lent ≡ accepted
-      room-passed (passed q g) = q
-      room-passed (stopped d why) = absurd (why.3 (full why.0))
+      room_passed : RoomLooked → read_room lent ≡ accepted
+      room_passed (passed q g) = q
+      room_passed (stopped d why) = absurd (why.3 (full why.0))
 
   -- an outcome that is refused says why, one that is not has lent tables of full size and the text read
   abbrev Way : Outcome Contents → Type 0
@@ -93,7 +93,7 @@ module _ (text : List ℕ) (lent : Tables) where
   way_read full (got c rest) e = (e, full)
   way_read full (refused a) e =
       ⊎_elim
-      (λ (at : AtMisfit month_form text a). by-text at full)
+      (λ (at : AtMisfit month_form text a). by_text at full)
       (λ (over : AtLimit month_form text a).
       let one = table_over text a over in
       by_count one.0 one.1 one.2 full)
@@ -109,7 +109,7 @@ module _ (text : List ℕ) (lent : Tables) where
 
   refused_number : (a : Answer) → ReadRefused text lent a → a.number ≢ 0
   refused_number a (by_room table e before short) z = let n : ROOM ≡ 0 = ap (λ (k : Answer). k.number) (sym e) ∙ z in omega arith
-  refused_number a (by-text at full) z = let n : TEXT ≡ 0 = ap (λ (k : Answer). k.number) (sym at.its) ∙ z in omega arith
+  refused_number a (by_text at full) z = let n : TEXT ≡ 0 = ap (λ (k : Answer). k.number) (sym at.its) ∙ z in omega arith
   refused_number a (by_count table e why full) z = let n : COUNT ≡ 0 = ap (λ (k : Answer). k.number) (sym e) ∙ z in omega arith
 
   -- a text with a row too many
@@ -129,34 +129,34 @@ module _ (text : List ℕ) (lent : Tables) where
       go (stopped d why) =
           outcome_short d
           ∙ ap refused (why.1 ∙ ap (λ t. refusal ROOM (number t) 0) (first_broken (Full lent) why.0 table why.2 why.3 before short) ∙ sym e)
-  outcome_why a (by-text at full) = outcome_full full ∙ misfit_refused month_form month_sound text a at
+  outcome_why a (by_text at full) = outcome_full full ∙ misfit_refused month_form month_sound text a at
   outcome_why a (by_count table e why full) = outcome_full full ∙ full_table table why ∙ ap refused (sym e)
 
   module _ (after : Tables) (r : Reading) (reads : Reads text lent after r) where
     -- a refused read answers zeros for the head and the rows, and changes no lent word
-    refused-by : (o : Outcome Contents) → Way o → r ≡ read_answer o → after ≡ filled lent (tables_in o) → r.answer.number ≢ 0
+    refused_by : (o : Outcome Contents) → Way o → r ≡ read_answer o → after ≡ filled lent (tables_in o) → r.answer.number ≢ 0
         → (r ≡ read_answer (refused r.answer)) × (after ≡ lent) × ReadRefused text lent r.answer
-    refused-by (refused a) why e s d =
+    refused_by (refused a) why e s d =
         let same : a ≡ r.answer = sym (ap (λ (h : Reading). h.answer) e) in
         (e ∙ ap (λ k. read_answer (refused k)) same, s ∙ sym (nothing_filled lent), subst (ReadRefused text lent) same why)
-    refused-by (got c rest) w e s d = absurd (d (ap (λ (h : Reading). h.answer.number) e))
+    refused_by (got c rest) w e s d = absurd (d (ap (λ (h : Reading). h.answer.number) e))
 
-    pub read-refused : r.answer.number ≢ 0 → (r ≡ read_answer (refused r.answer)) × (after ≡ lent) × ReadRefused text lent r.answer
-    read-refused d = refused-by (read_outcome text lent) way reads.answers reads.stores d
+    pub read_refused : r.answer.number ≢ 0 → (r ≡ read_answer (refused r.answer)) × (after ≡ lent) × ReadRefused text lent r.answer
+    read_refused d = refused_by (read_outcome text lent) way reads.answers reads.stores d
 
     -- a read answers a refusal exactly when its reason is so
-    pub read-refused-exactly : (a : Answer) → ReadRefused text lent a ↔ ((r.answer ≡ a) × (a.number ≢ 0))
-    read-refused-exactly a = (
+    pub read_refused_exactly : (a : Answer) → ReadRefused text lent a ↔ ((r.answer ≡ a) × (a.number ≢ 0))
+    read_refused_exactly a = (
       (λ why. (ap (λ (h : Reading). h.answer) (reads.answers ∙ ap read_answer (outcome_why a why)), refused_number a why)),
-      (λ w. subst (ReadRefused text lent) w.0 (read-refused (λ z. w.1 (ap (λ (k : Answer). k.number) (sym w.0) ∙ z))).2),
+      (λ w. subst (ReadRefused text lent) w.0 (read_refused (λ z. w.1 (ap (λ (k : Answer). k.number) (sym w.0) ∙ z))).2),
     )
 
     -- an accepted read has each table's rows at its front, and behind them what was lent
-    accepted-by : (o : Outcome Contents) → Way o → r ≡ read_answer o → after ≡ filled lent (tables_in o) → r.answer.number ≡ 0
+    accepted_by : (o : Outcome Contents) → Way o → r ≡ read_answer o → after ≡ filled lent (tables_in o) → r.answer.number ≡ 0
         → (c : Contents) × ContentsFit month_form c × (text ≡ file_text month_form c) × (r ≡ read_answer (got c []))
         × ((table : Table) → words_of after table ≡ at_front (nth c.tables (place_of table)).words (words_of lent table))
-    accepted-by (refused a) w e s z = absurd (refused_number a w (ap (λ (h : Reading). h.answer.number) (sym e) ∙ z))
-    accepted-by (got c rest) w e s z =
+    accepted_by (refused a) w e s z = absurd (refused_number a w (ap (λ (h : Reading). h.answer.number) (sym e) ∙ z))
+    accepted_by (got c rest) w e s z =
         let back : FileBack month_form text c = file_back month_form text c rest w.0 in
         let front : (table : Table) → length (nth c.tables (place_of table)).words ≤ length (words_of lent table) =
         λ table. fits_front table (nth c.tables (place_of table)) (table_fits c.tables back.within.fit table) (w.1 table) in (
@@ -168,10 +168,10 @@ module _ (text : List ℕ) (lent : Tables) where
               ∙ stored_in_front (words_of lent table) (nth c.tables (place_of table)).words (front table),
         )
 
-    pub read-accepted : r.answer.number ≡ 0
+    pub read_accepted : r.answer.number ≡ 0
         → (c : Contents) × ContentsFit month_form c × (text ≡ file_text month_form c) × (r ≡ read_answer (got c []))
         × ((table : Table) → words_of after table ≡ at_front (nth c.tables (place_of table)).words (words_of lent table))
-    read-accepted z = accepted-by (read_outcome text lent) way reads.answers reads.stores z
+    read_accepted z = accepted_by (read_outcome text lent) way reads.answers reads.stores z
 
     -- the text of contents within the limits, read into tables of full size, is accepted with these contents
     pub good_read : ((table : Table) → Full lent table) → (c : Contents) → ContentsFit month_form c → text ≡ file_text month_form c → r ≡ read_answer (got c [])

@@ -34,8 +34,8 @@ use Rattle.filewrite.specs.declared.Written.{Written}
 use Rattle.filewrite.specs.Calls.{numbers_of, whole_rows, all_rows, contents_of, month_text, Writes}
 use Rattle.monthfile.specs.Front.{at_front}
 use Rattle.monthfile.specs.Refused.{Full}
-use Rattle.monthfile.proofs.ReadCalls.{read-accepted, good_read}
-use Rattle.monthfile.proofs.WriteCalls.{WriteLooked, looks, write-accepted, good_write}
+use Rattle.monthfile.proofs.ReadCalls.{read_accepted, good_read}
+use Rattle.monthfile.proofs.WriteCalls.{WriteLooked, looks, write_accepted, good_write}
 
 -- a table that was read: within its limits, counted, and at the front of the lent words
 pub record TableRead (r : Reading) (after : Tables) (table : Table) (own : Rows) : Type 0 where
@@ -69,7 +69,7 @@ front_read r after table own lent fits count words =
 
 pub text_read : (text : List ℕ) (lent after : Tables) (r : Reading) → Reads text lent after r → r.answer.number ≡ 0 → TextRead text r after
 text_read text lent after r reads z =
-    let read = read-accepted text lent after r reads z in
+    let read = read_accepted text lent after r reads z in
     record {
       contents = read.0;
       within = read.1;
@@ -134,7 +134,7 @@ module _ (text : List ℕ) (r : Reading) (after : Tables) (read : TextRead text 
   written_again out written w writes room =
       let answer : w.answer ≡ accepted =
       good_write r.head (tables_read r after) out written w writes counted (le_trans (le_of_eq (ap length same_text)) room) in
-      let wrote = write-accepted r.head (tables_read r after) out written w writes (ap (λ (a : Answer). a.number) answer) in
+      let wrote = write_accepted r.head (tables_read r after) out written w writes (ap (λ (a : Answer). a.number) answer) in
       let size : w.length ≡ length text = wrote.0 ∙ ap length same_text in
       ((λ i. record { answer = answer i; length = size i }), wrote.1 ∙ ap (λ s. at_front s out) same_text)
 
@@ -166,23 +166,23 @@ module _ (head : Head) (t : Tables) (small : Below (numbers_of head)) (below : (
     abbrev c : Contents
     c = contents_of head t
 
-    whole-rows : WriteLooked head t out → (table : Table) → GoodCount t table
-    whole-rows (passed e g) = g.0
-    whole-rows (stopped n why) = absurd (n (ap (λ (a : Answer). a.number) (sym writes.answers) ∙ z))
+    whole_rows_lem : WriteLooked head t out → (table : Table) → GoodCount t table
+    whole_rows_lem (passed e g) = g.0
+    whole_rows_lem (stopped n why) = absurd (n (ap (λ (a : Answer). a.number) (sym writes.answers) ∙ z))
 
-    text-again : take w.length after ≡ file_text month_form c
-    text-again =
-        let wrote = write-accepted head t out after w writes z in
+    text_again : take w.length after ≡ file_text month_form c
+    text_again =
+        let wrote = write_accepted head t out after w writes z in
         ap (λ k. take k after) wrote.0 ∙ ap (take (length (file_text month_form c))) wrote.1
         ∙ take-append_seam (file_text month_form c) (drop (length (file_text month_form c)) out)
 
     pub write_then_read : (lent filled_in : Tables) (r : Reading) → Reads (take w.length after) lent filled_in r → ((table : Table) → Full lent table)
         → (r ≡ read_answer (got c [])) × ((table : Table) → words_of filled_in table ≡ at_front (words_of t table) (words_of lent table))
     write_then_read lent filled_in r reads full =
-        let within : ContentsFit month_form c = held_within (whole-rows (looks head t out)) in
-        let answer : r ≡ read_answer (got c []) = good_read (take w.length after) lent filled_in r reads full c within text-again in
-        let got-it = read-accepted (take w.length after) lent filled_in r reads (ap (λ (h : Reading). h.answer.number) answer) in
-        let both_read : got c [] ≡ got got-it.0 [] = sym (ap (reading month_form) text-again ∙ written_then_read c within)
+        let within : ContentsFit month_form c = held_within (whole_rows_lem (looks head t out)) in
+        let answer : r ≡ read_answer (got c []) = good_read (take w.length after) lent filled_in r reads full c within text_again in
+        let got-it = read_accepted (take w.length after) lent filled_in r reads (ap (λ (h : Reading). h.answer.number) answer) in
+        let both_read : got c [] ≡ got got-it.0 [] = sym (ap (reading month_form) text_again ∙ written_then_read c within)
         ∙ ap (reading month_form) got-it.2 ∙ written_then_read got-it.0 got-it.1 in
         let same : c ≡ got-it.0 = cc in (
           answer,

@@ -21,13 +21,13 @@ module _ (text : List ℕ) (lent : Tables) (a : Answer) where
   pub data ReadRefused : Type 0 where
     by_room : (table : Table) → a ≡ refusal answers.ROOM (number table) 0 → ((earlier : Table) → place_of earlier < place_of table → Full lent earlier)
         → ¬ Full lent table → ReadRefused
-    by-text : AtMisfit month_form text a → ((table : Table) → Full lent table) → ReadRefused
+    by_text : AtMisfit month_form text a → ((table : Table) → Full lent table) → ReadRefused
     by_count : (table : Table) → a ≡ refusal answers.COUNT (number table) (limit table) → RowTooMany month_form (place_of table) (kind_of table) text
         → ((every : Table) → Full lent every) → ReadRefused
 
 module _ (head : Head) (t : Tables) (room : ℕ) (a : Answer) where
   -- "Writing refuses with COUNT (the first bad table), then ROOM (table 0)"
   pub data WriteRefused : Type 0 where
-    by-bad-table : (table : Table) → a ≡ refusal answers.COUNT (number table) 0 → ((earlier : Table) → place_of earlier < place_of table → GoodCount t earlier)
+    by_bad_table : (table : Table) → a ≡ refusal answers.COUNT (number table) 0 → ((earlier : Table) → place_of earlier < place_of table → GoodCount t earlier)
         → ¬ GoodCount t table → WriteRefused
-    by-short-room : a ≡ refusal answers.ROOM answers.HEAD 0 → ((table : Table) → GoodCount t table) → room < length (month_text head t) → WriteRefused
+    by_short_room : a ≡ refusal answers.ROOM answers.HEAD 0 → ((table : Table) → GoodCount t table) → room < length (month_text head t) → WriteRefused

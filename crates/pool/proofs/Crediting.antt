@@ -86,8 +86,8 @@ module _ {block : List ℕ} (two : CreditColumns block) (p : Pots) {credits : Li
         (ap length added.lent ∙ either_long (eqb number 0) _ (credit_column 1 (half_of credits block)) (length_put (length weights) _ (credit_column 1 (half_of credits block))) ∙ second_long)
 
     module _ {last r : Answer} (refused : last ≡ refuse number DIVISIONS p.groups) (both : r ≡ (zones then last)) where
-      pub network-divided : NetworkDivided p nonzone weights block (with_columns (limit Owners) 1 1 nonzonecredits (half_of credits block)) r
-      network-divided =
+      pub network_divided : NetworkDivided p nonzone weights block (with_columns (limit Owners) 1 1 nonzonecredits (half_of credits block)) r
+      network_divided =
           record {
             answer = both ∙ ap₂ ◌then◌ grouped.answers (refused ∙ ap (λ n. refuse n DIVISIONS p.groups) added.number);
             credited =

@@ -116,9 +116,9 @@ module _ {s : Service} {z nonzone : ℕ} {column : List ℕ} (so_far : Charged s
   fine_before place y b = turn_fine s place y (so_far.splits y b) (so_far.summed.fine y b)
 
   module _ (place : ℕ) (after : List ℕ) (r : ZoneCharged) (one : Zone s place z column after r) where
-    pub charged-more : r.answer.number ≡ 0 → Charged s (z + 1) (nonzone + r.nonzone) after
+    pub charged_more : r.answer.number ≡ 0 → Charged s (z + 1) (nonzone + r.nonzone) after
     unfolding nonzone_side zone_side
-    charged-more fine =
+    charged_more fine =
         let turn = fine_turn s place z (ap (λ (a : Answer). a.number) (sym (zone_answer s place z column after r one)) ∙ fine) in
         record {
           summed = summed_more so_far.summed after 0 (one.added fine) refl;
@@ -130,15 +130,15 @@ module _ {s : Service} {z nonzone : ℕ} {column : List ℕ} (so_far : Charged s
           nonzone_sides = ap₂ ◌+◌ so_far.nonzone_sides (one.nonzone_side_lem fine) ∙ sym (sum_suc z (nonzone_side s));
         }
 
-    pub nonzone-next : r.answer.number ≡ 0 → r.nonzone ≤ pot_limit
+    pub nonzone_next : r.answer.number ≡ 0 → r.nonzone ≤ pot_limit
     unfolding nonzone_side
-    nonzone-next fine =
+    nonzone_next fine =
         le_trans (le_of_eq (one.nonzone_side_lem fine))
         (nonzone_side_fits s z
         (fine_turn s place z (ap (λ (a : Answer). a.number) (sym (zone_answer s place z column after r one)) ∙ fine)).0)
 
-    pub charged-stop : z < s.zones → r.answer.number ≢ 0 → AllZones s place after r
-    charged-stop b bad =
+    pub charged_stop : z < s.zones → r.answer.number ≢ 0 → AllZones s place after r
+    charged_stop b bad =
         let turn : r.answer ≡ zone_turn s place z = zone_answer s place z column after r one in
         record {
           answer =

@@ -43,8 +43,8 @@ module _ {s : Service} {place : ℕ} {sums : List ℕ} {r : ZoneCharged} (zones 
       }
 
   module _ (fine : r.answer.number ≡ 0) where
-    pub room-for-nonzone : (n : ℕ) → n ≡ s.accounts → s.zones ≤ most_groups → Addable n sums
-    room-for-nonzone n e h = subst (λ k. Addable k sums) (sym e) (summed_room (zones.charged fine).summed h)
+    pub room_for_nonzone : (n : ℕ) → n ≡ s.accounts → s.zones ≤ most_groups → Addable n sums
+    room_for_nonzone n e h = subst (λ k. Addable k sums) (sym e) (summed_room (zones.charged fine).summed h)
 
     module _ (parts : List ℕ) (p : parts ≡ nonzone_parts s) (after : List ℕ) (refusal : ℕ) (a : Added r.nonzone parts sums after refusal)
       where
@@ -52,13 +52,13 @@ module _ {s : Service} {place : ℕ} {sums : List ℕ} {r : ZoneCharged} (zones 
         unfolding nonzone_parts
         as_many = ap length p ∙ length_listed s.accounts s.nonzone_part
 
-        pot-is : r.nonzone ≡ nonzone_pot s
+        pot_is : r.nonzone ≡ nonzone_pot s
         unfolding nonzone_pot
-        pot-is = (zones.charged fine).nonzone_sides
+        pot_is = (zones.charged fine).nonzone_sides
 
         number_is : refusal ≡ nonzone_refusal s
         unfolding nonzone_refusal
-        number_is = a.number ∙ ap₂ (λ q l. size_refusal q (total l)) pot-is p
+        number_is = a.number ∙ ap₂ (λ q l. size_refusal q (total l)) pot_is p
 
         added : refusal ≡ 0 → after ≡ put s.accounts (λ i. at sums i + at (shares r.nonzone parts) i) sums
         added none =
@@ -71,13 +71,13 @@ module _ {s : Service} {place : ℕ} {sums : List ℕ} {r : ZoneCharged} (zones 
         charged none i b =
             ap (λ l. at l i) (added none)
             ∙ at_put s.accounts _ sums (zones.charged fine).summed.long i b
-            ∙ ap₂ ◌+◌ ((zones.charged fine).summed.sums i b) (ap₂ (λ q l. at (shares q l) i) pot-is p)
+            ∙ ap₂ ◌+◌ ((zones.charged fine).summed.sums i b) (ap₂ (λ q l. at (shares q l) i) pot_is p)
 
         -- the non-zone pot's division has the answer
-        pub nonzone-ends : (answer : Answer) → answer ≡ refuse refusal DIVISIONS (nonzone_place place s)
+        pub nonzone_ends : (answer : Answer) → answer ≡ refuse refusal DIVISIONS (nonzone_place place s)
             → AllCharged s place after answer
         unfolding service_in_turn
-        nonzone-ends answer e =
+        nonzone_ends answer e =
             let number : answer.number ≡ refusal =
             ap (λ (q : Answer). q.number) e ∙ refuse_number refusal DIVISIONS (nonzone_place place s) in
             record {

@@ -35,7 +35,7 @@ use Rattle.settlement.specs.Settled.{
   answer_of,
 }
 use Rattle.settlement.specs.Accepted.{GoodInput, FineNetworkZone, FineNetworkNonzone, ZonesFine, NetworkFine, ServicesFine, FineFirm, Accepted}
-use Rattle.settlement.specs.Refused.{Refused, by-tables, at-zone, at_nonzone, in-black-start, in-reactive, at-firm}
+use Rattle.settlement.specs.Refused.{Refused, by_tables, at_zone, at_nonzone, in_black_start, in_reactive, at_firm}
 
 -- a network division is not refused exactly where its sizes are fine
 module _ (m : Input) where
@@ -81,13 +81,13 @@ module _ (m : Input) (lent_charges lent_credits : ℕ) where
       (λ (z : _ ≡ 0).
       let good : GoodInput m lent_charges lent_credits = judged_good (head_of m) m.tables lent_charges lent_credits z in
       passed (good_unrefused (head_of m) m.tables lent_charges lent_credits good) good)
-      (λ (d : _ ≢ 0). stopped d (by-tables (judged_why (head_of m) m.tables lent_charges lent_credits d)))
+      (λ (d : _ ≢ 0). stopped d (by_tables (judged_why (head_of m) m.tables lent_charges lent_credits d)))
       (zero_or_not (judged (head_of m) m.tables lent_charges lent_credits).number)
 
   module _ (good : GoodInput m lent_charges lent_credits) where
-    zones-stage : Stage (ZonesFine m (zone_count m)) Why (groups.groups_in_turn (network_pots m) network_place)
+    zones_stage : Stage (ZonesFine m (zone_count m)) Why (groups.groups_in_turn (network_pots m) network_place)
     unfolding groups.group_refusal
-    zones-stage =
+    zones_stage =
         ⊎_elim
         (λ (z : (groups.groups_in_turn (network_pots m) network_place).number ≡ 0).
         let all = accepted_all (network_pots m) network_place z in
@@ -95,20 +95,20 @@ module _ (m : Input) (lent_charges lent_credits : ℕ) where
         (λ (d : (groups.groups_in_turn (network_pots m) network_place).number ≢ 0).
         let g : RefusedGroup (network_pots m) network_place (groups.groups_in_turn (network_pots m) network_place) = refused_at (network_pots m) network_place d in
         stopped d
-        (at-zone good g.group (groups.group_refusal (network_pots m) g.group) g.one_of_them (λ y b. (zone_exactly m y).0 (g.earlier_fine y b))
+        (at_zone good g.group (groups.group_refusal (network_pots m) g.group) g.one_of_them (λ y b. (zone_exactly m y).0 (g.earlier_fine y b))
         (size_why _ _ _ refl (λ e. d (g.its_number ∙ e)))
         (λ i. record { number = g.its_number i; table = g.its_table i; row = (g.its_place ∙ zero-add g.group) i })))
         (zero_or_not (groups.groups_in_turn (network_pots m) network_place).number)
 
-    nonzone-stage : ZonesFine m (zone_count m) → Stage (NetworkFine m) Why (refuse (network_nonzone_refusal m) DIVISIONS (network_nonzone_place (zone_count m)))
+    nonzone_stage : ZonesFine m (zone_count m) → Stage (NetworkFine m) Why (refuse (network_nonzone_refusal m) DIVISIONS (network_nonzone_place (zone_count m)))
     unfolding network_nonzone_refusal
-    nonzone-stage fine =
+    nonzone_stage fine =
         refuse_stage (network_nonzone_refusal m) DIVISIONS (zone_count m) (λ z. record { zones_fine = fine; nonzone_fine = (nonzone_exactly m).0 z })
         (λ d. at_nonzone good (network_nonzone_refusal m) fine (size_why _ _ _ refl d) refl)
 
-    service-stage : (s place : ℕ) → ((r : Answer) → service.RefusedAt (service_in m s) place r → Why r)
+    service_stage : (s place : ℕ) → ((r : Answer) → service.RefusedAt (service_in m s) place r → Why r)
         → Stage (service.ServiceFine (service_in m s)) Why (service.service_in_turn (service_in m s) place)
-    service-stage s place because =
+    service_stage s place because =
         ⊎_elim
         (λ (z : (service.service_in_turn (service_in m s) place).number ≡ 0).
         let fine : service.ServiceFine (service_in m s) = accepted_fine (service_in m s) place z in
@@ -124,32 +124,32 @@ module _ (m : Input) (lent_charges lent_credits : ℕ) where
         (λ (q : s ≡ reactive). subst (λ k. service.ServiceFine (service_in m k)) (sym q) second)
         i
 
-    firm-stage : NetworkFine m → ServicesFine m → Stage (FineFirm m) Why (refuse (firm_refusal m) DIVISIONS (firm_place (zone_count m)))
+    firm_stage : NetworkFine m → ServicesFine m → Stage (FineFirm m) Why (refuse (firm_refusal m) DIVISIONS (firm_place (zone_count m)))
     unfolding firm_refusal
-    firm-stage network services =
+    firm_stage network services =
         refuse_stage (firm_refusal m) DIVISIONS (firm_place (zone_count m)) (firm_exactly m).0
-        (λ d. at-firm good (firm_refusal m) network services (size_why _ _ _ refl d) refl)
+        (λ d. at_firm good (firm_refusal m) network services (size_why _ _ _ refl d) refl)
 
-    divisions-stage : Stage (Accepted m lent_charges lent_credits) Why (divisions_in_turn m)
+    divisions_stage : Stage (Accepted m lent_charges lent_credits) Why (divisions_in_turn m)
     unfolding divisions_in_turn network_in_turn
-    divisions-stage =
+    divisions_stage =
         then_stage {G = NetworkFine m × ServicesFine m}
         (then_stage {G = NetworkFine m × service.ServiceFine (service_in m black_start)}
         (then_stage
-        (then_stage zones-stage nonzone-stage)
+        (then_stage zones_stage nonzone_stage)
         (λ network.
         passed_on (λ fine. (network, fine))
-        (service-stage black_start (black_start_place (zone_count m)) (λ r. in-black-start good network))))
+        (service_stage black_start (black_start_place (zone_count m)) (λ r. in_black_start good network))))
         (λ p.
         passed_on (λ fine. (p.0, both p.1 fine))
-        (service-stage reactive (reactive_place (zone_count m)) (λ r. in-reactive good p.0 p.1))))
+        (service_stage reactive (reactive_place (zone_count m)) (λ r. in_reactive good p.0 p.1))))
         (λ p.
         passed_on (λ fine. record { good = good; network_fine = p.0; service_fine = p.1; firm_fine = fine })
-        (firm-stage p.0 p.1))
+        (firm_stage p.0 p.1))
 
   answer_stage : Stage (Accepted m lent_charges lent_credits) Why (answer_of m lent_charges lent_credits)
   unfolding answer_of
-  answer_stage = then_stage tables_stage divisions-stage
+  answer_stage = then_stage tables_stage divisions_stage
 
   pub answer_accepted : (answer_of m lent_charges lent_credits).number ≡ 0 → Accepted m lent_charges lent_credits
   answer_accepted e =

@@ -42,16 +42,16 @@ module _ (m : Input) (lent_charges lent_credits : ℕ) (good : GoodInput m lent_
 
   -- a service's pots, and its credits, are its units' credits
   module _ (s : ℕ) where
-    pub pots-are-credits : sum_to (zone_count m) (zone_pot m s) ≡ sum_to (unit_count m) (credit_in m s)
+    pub pots_are_credits : sum_to (zone_count m) (zone_pot m s) ≡ sum_to (unit_count m) (credit_in m s)
     unfolding zone_credits
-    pots-are-credits =
+    pots_are_credits =
         by_number (unit_count m) (zone_count m) (unit_zone units) (credit_in m s) (zone_number zones)
         ∙ sum_eq (unit_count m) _ (credit_in m s)
         (λ u b. in_one_zone (unit_zone units u) (credit_in m s u) (good.tables Units u b).linked.1)
 
-    pub owners-have-credits : sum_to (owner_count m) (service_credit m s) ≡ sum_to (unit_count m) (credit_in m s)
+    pub owners_have_credits : sum_to (owner_count m) (service_credit m s) ≡ sum_to (unit_count m) (credit_in m s)
     unfolding service_credit
-    owners-have-credits =
+    owners_have_credits =
         by_number (unit_count m) (owner_count m) (unit_owner units) (credit_in m s) (owner_number owners)
         ∙ sum_eq (unit_count m) _ (credit_in m s)
         (λ u b. in_one_owner (unit_owner units u) (credit_in m s u) (good.tables Units u b).linked.0)

@@ -27,7 +27,7 @@ use Rattle.pool.specs.Accounts.{account_use}
 use Rattle.pool.specs.Services.{zone_pot, service_in}
 use Rattle.settlement.specs.Paid.{WithoutRequirement}
 use Rattle.settlement.specs.Before.{former_service}
-use Rattle.settlement.proofs.Parts.{sides_of_none, parted, parts-are-use}
+use Rattle.settlement.proofs.Parts.{sides_of_none, parted, parts_are_use}
 
 -- what both parts of all accounts add up to
 use_of_parts : (v : Service) (used : ℕ → ℕ) → ((a : ℕ) → v.zone_part a + v.nonzone_part a ≡ used a) → total (both_uses v) ≡ sum_to v.accounts used
@@ -46,7 +46,7 @@ module _ (m : Input) (s : ℕ) where
 
   -- all use, by its parts now and by those of the first words
   pub all_use : total (both_uses (service_in m s)) ≡ sum_to (account_count m) (account_use m)
-  all_use = use_of_parts (service_in m s) (account_use m) (parts-are-use m s)
+  all_use = use_of_parts (service_in m s) (account_use m) (parts_are_use m s)
 
   former_use : total (both_uses (former_service m s)) ≡ sum_to (account_count m) (account_use m)
   former_use = use_of_parts (former_service m s) (account_use m) (λ a. in_or_out (eqb (account_zone accounts a) 0) (account_use m a))
@@ -62,8 +62,8 @@ module _ (m : Input) (s : ℕ) where
   part_falls : (a : ℕ) → (service_in m s).zone_part a ≤ (former_service m s).zone_part a
   part_falls a =
       ⊎_elim
-      (λ (e : account_zone accounts a ≡ 0). le_trans (le_of_eq ((parted m s a).in-zone-0 e).0) (omega arith))
-      (λ (d : account_zone accounts a ≢ 0). omega (arith, parts-are-use m s a, former_outside a d))
+      (λ (e : account_zone accounts a ≡ 0). le_trans (le_of_eq ((parted m s a).in_zone_0 e).0) (omega arith))
+      (λ (d : account_zone accounts a ≢ 0). omega (arith, parts_are_use m s a, former_outside a d))
       (zero_or_not (account_zone accounts a))
 
   use_falls : zone_use (service_in m s) ≤ zone_use (former_service m s)
@@ -72,23 +72,23 @@ module _ (m : Input) (s : ℕ) where
 
   module _ (z : ℕ) (named : zone_number zones z ≢ 0) where
     -- what the weights of a zone's share add up to, where a zone part of its accounts is their use
-    weights-by : (part : ℕ → ℕ) → ((a : ℕ) → account_zone accounts a ≡ zone_number zones z → part a ≡ account_use m a)
+    weights_by : (part : ℕ → ℕ) → ((a : ℕ) → account_zone accounts a ≡ zone_number zones z → part a ≡ account_use m a)
         → total (among (account_count m) (account_zone accounts) part (zone_number zones z)) ≡ sum_where (account_count m) (account_zone accounts) (account_use m) (zone_number zones z)
     unfolding among sum_where
-    weights-by part its =
+    weights_by part its =
         total_listed (account_count m) (λ a. when (eqb (account_zone accounts a) (zone_number zones z)) (part a))
         ∙ where_eq (account_count m) (account_zone accounts) part (zone_number zones z) (account_use m) (λ a b e. its a e)
 
-    pub weights-are-use : ¬ WithoutRequirement m s (zone_number zones z)
+    pub weights_are_use : ¬ WithoutRequirement m s (zone_number zones z)
         → total (weights_in (zone_sides (service_in m s)) z) ≡ sum_where (account_count m) (account_zone accounts) (account_use m) (zone_number zones z)
     unfolding weights_in
-    weights-are-use required =
-        weights-by (service_in m s).zone_part
-        (λ a e. ((parted m s a).with-requirement (λ q. named (sym e ∙ q)) (λ without. required (subst (WithoutRequirement m s) e without))).0)
+    weights_are_use required =
+        weights_by (service_in m s).zone_part
+        (λ a e. ((parted m s a).with_requirement (λ q. named (sym e ∙ q)) (λ without. required (subst (WithoutRequirement m s) e without))).0)
 
-    former-weights : total (weights_in (zone_sides (former_service m s)) z) ≡ sum_where (account_count m) (account_zone accounts) (account_use m) (zone_number zones z)
+    former_weights : total (weights_in (zone_sides (former_service m s)) z) ≡ sum_where (account_count m) (account_zone accounts) (account_use m) (zone_number zones z)
     unfolding weights_in
-    former-weights = weights-by (former_service m s).zone_part (λ a e. former_outside a (λ q. named (sym e ∙ q)))
+    former_weights = weights_by (former_service m s).zone_part (λ a e. former_outside a (λ q. named (sym e ∙ q)))
 
     module _ (fine : split_refusal (service_in m s) z ≡ 0) where
       -- a share that has no base had none
@@ -98,4 +98,4 @@ module _ (m : Input) (s : ℕ) where
           let former-fine = sym (same_split z) ∙ fine in
           let required : ¬ WithoutRequirement m s (zone_number zones z) = λ without. omega (arith, why.0, (sides_of_none m s z fine without).0) in
           let no_less = no_larger_side (service_in m s) (former_service m s) z refl (all_use ∙ sym former_use) use_falls fine former-fine in
-          share_is (former_service m s) z former-fine (omega (arith, why.0, no_less)) (former-weights ∙ sym (weights-are-use required) ∙ why.1)
+          share_is (former_service m s) z former-fine (omega (arith, why.0, no_less)) (former_weights ∙ sym (weights_are_use required) ∙ why.1)

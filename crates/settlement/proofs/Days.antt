@@ -47,9 +47,9 @@ module _ (m : Input) (a : ℕ) where
   missing_day day none = sum_zero (load_count m) _ (λ i b. elsewhere day i (none i b))
 
   module _ (lent_charges lent_credits : ℕ) (good : GoodInput m lent_charges lent_credits) where
-    pub day-by-day : contributions m a ≡ sum_to m.days (λ d. contribution_on m a (d + 1))
+    pub day_by_day : contributions m a ≡ sum_to m.days (λ d. contribution_on m a (d + 1))
     unfolding contributions contribution_on sum_where
-    day-by-day =
+    day_by_day =
         sym
         (sum_swap m.days (load_count m)
         (λ d i. when (eqb (load_account loads i) (account_number accounts a)) (when (eqb (load_day loads i) (d + 1)) (load_contribution loads i)))
@@ -59,8 +59,8 @@ module _ (m : Input) (a : ℕ) where
         (good.tables Loads i b).in_range.day.most (eqb (load_account loads i) (account_number accounts a))))
 
     -- no two rows have one account and one day
-    one-a-day : (i j : ℕ) → i < load_count m → j < load_count m → i ≢ j → load_account loads i ≡ load_account loads j → load_day loads i ≢ load_day loads j
-    one-a-day i j b h d e same =
+    one_a_day : (i j : ℕ) → i < load_count m → j < load_count m → i ≢ j → load_account loads i ≡ load_account loads j → load_day loads i ≢ load_day loads j
+    one_a_day i j b h d e same =
         ⊎_elim
         (λ (l : i < j). ⊎_elim (λ p. omega arith) (λ p. omega arith) (up i j l h))
         (λ (l : j ≤ i). let less : j < i = omega (arith, d) in ⊎_elim (λ p. omega arith) (λ p. omega arith) (up j i less b))
@@ -69,12 +69,12 @@ module _ (m : Input) (a : ℕ) where
         up : AscendsByDay (load_count m) (load_account loads) (load_day loads)
         up = loads_ascend m lent_charges lent_credits good
 
-    pub load-on-its-day : (i : ℕ) → i < load_count m → load_account loads i ≡ account_number accounts a
+    pub load_on_its_day : (i : ℕ) → i < load_count m → load_account loads i ≡ account_number accounts a
         → contribution_on m a (load_day loads i) ≡ load_contribution loads i
     unfolding contribution_on sum_where
-    load-on-its-day i b e =
+    load_on_its_day i b e =
         sum_one (load_count m)
         (λ j. when (eqb (load_account loads j) (account_number accounts a)) (when (eqb (load_day loads j) (load_day loads i)) (load_contribution loads j))) i b
-        (λ j h d. elsewhere (load_day loads i) j (λ q. one-a-day j i h b d (q ∙ sym e)))
+        (λ j h d. elsewhere (load_day loads i) j (λ q. one_a_day j i h b d (q ∙ sym e)))
         ∙ when_true (eqb (load_account loads i) (account_number accounts a)) _ (eq-eqb (load_account loads i) (account_number accounts a) e)
         ∙ when_true (eqb (load_day loads i) (load_day loads i)) (load_contribution loads i) (eq-eqb (load_day loads i) (load_day loads i) refl)

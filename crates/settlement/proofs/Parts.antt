@@ -69,22 +69,22 @@ module _ (m : Input) (s : ℕ) where
     pub parted : Parted m s a
     parted =
         record {
-          with-requirement = λ d required.
+          with_requirement = λ d required.
               let p = with_credits zone (zone_credits m s zone) (network_use m a) (energy_use m a) d (credits_where_required zone required) in
               (p.0 ∙ network_and_energy_add_up m a, p.1);
-          without-requirement = λ d without.
+          without_requirement = λ d without.
               without_credits zone (zone_credits m s zone) (network_use m a) (energy_use m a) d ((requirement_exactly zone).1 without);
-          in-zone-0 = λ e.
+          in_zone_0 = λ e.
               let p = at_border zone (zone_credits m s zone) (network_use m a) (energy_use m a) e in (p.0, p.1 ∙ network_and_energy_add_up m a);
         }
 
     -- the two parts are the use
-    pub parts-are-use : (service_in m s).zone_part a + (service_in m s).nonzone_part a ≡ account_use m a
-    parts-are-use = parts_add_up zone (zone_credits m s zone) (network_use m a) (energy_use m a) ∙ network_and_energy_add_up m a
+    pub parts_are_use : (service_in m s).zone_part a + (service_in m s).nonzone_part a ≡ account_use m a
+    parts_are_use = parts_add_up zone (zone_credits m s zone) (network_use m a) (energy_use m a) ∙ network_and_energy_add_up m a
 
     -- an account that is no sharer has no non-zone part ..
-    not-sharing : is_sharer m s a ≡ false → (service_in m s).nonzone_part a ≡ 0
-    not-sharing apart =
+    not_sharing : is_sharer m s a ≡ false → (service_in m s).nonzone_part a ≡ 0
+    not_sharing apart =
         let tests = neither (eqb zone 0) (eqb (zone_credits m s zone) 0) apart in
         (with_credits zone (zone_credits m s zone) (network_use m a) (energy_use m a) (eqb-false zone 0 tests.0)
         (eqb-false (zone_credits m s zone) 0 tests.1)).1
@@ -93,7 +93,7 @@ module _ (m : Input) (s : ℕ) where
     sharing : is_sharer m s a ≡ true → (service_in m s).nonzone_part a ≡ sharer_use m a
     sharing shares-in =
         ⊎_elim
-        (λ (e : zone ≡ 0). (parted.in-zone-0 e).1 ∙ sym (rw (eq-eqb zone 0 e)))
+        (λ (e : zone ≡ 0). (parted.in_zone_0 e).1 ∙ sym (rw (eq-eqb zone 0 e)))
         (λ (d : zone ≢ 0).
         ⊎_elim
         (λ (t : eqb zone 0 ≡ true). absurd (d (eqb-true zone 0 t)))
@@ -103,8 +103,8 @@ module _ (m : Input) (s : ℕ) where
         (zero_or_not zone)
 
     -- who shares, in the request's words
-    pub sharer-exactly : (is_sharer m s a ≡ true) ↔ ((zone ≡ 0) ⊎ WithoutRequirement m s zone)
-    sharer-exactly = (
+    pub sharer_exactly : (is_sharer m s a ≡ true) ↔ ((zone ≡ 0) ⊎ WithoutRequirement m s zone)
+    sharer_exactly = (
       (λ shares-in.
           ⊎_elim (λ t. inl (eqb-true zone 0 t)) (λ t. inr ((requirement_exactly zone).0 (eqb-true (zone_credits m s zone) 0 t)))
           (either (eqb zone 0) (eqb (zone_credits m s zone) 0) shares-in)),
@@ -131,21 +131,21 @@ module _ {m : Input} {lent_charges lent_credits : ℕ} (all : Accepted m lent_ch
     no_sides z h = sides_of_none m s z (laws.splits_pass fine.zones_fine z h)
 
     -- what an account of zone z pays, where the zone has a requirement ..
-    pub pays-its-zone-side : (a z : ℕ) → a < account_count m → z < zone_count m → account_zone accounts a ≡ zone_number zones z
+    pub pays_its_zone_side : (a z : ℕ) → a < account_count m → z < zone_count m → account_zone accounts a ≡ zone_number zones z
         → ¬ WithoutRequirement m s (zone_number zones z) → service_charge m s a ≡ service.zone_share (service_in m s) z a
     unfolding service_charge
-    pays-its-zone-side a z b h e required =
+    pays_its_zone_side a z b h e required =
         promises.charge_in_a_zone (service_in m s) fine a z b h e (zones_distinct z h)
         ∙ ap (λ k. service.zone_share (service_in m s) z a + k)
         (promises.nonzone_sides_to_nobody_else (service_in m s) fine a b
-        ((parted m s a).with-requirement (λ q. zone_not_zero z h (sym e ∙ q)) (λ without. required (subst (WithoutRequirement m s) e without))).1)
+        ((parted m s a).with_requirement (λ q. zone_not_zero z h (sym e ∙ q)) (λ without. required (subst (WithoutRequirement m s) e without))).1)
         ∙ add-zero (service.zone_share (service_in m s) z a)
 
     -- .. and where it has none
-    pays-beside-zone-0 : (a z : ℕ) → a < account_count m → z < zone_count m → account_zone accounts a ≡ zone_number zones z
+    pays_beside_zone_0 : (a z : ℕ) → a < account_count m → z < zone_count m → account_zone accounts a ≡ zone_number zones z
         → WithoutRequirement m s (zone_number zones z) → service_charge m s a ≡ service.nonzone_share (service_in m s) a
     unfolding service_charge service.zone_share amount
-    pays-beside-zone-0 a z b h e without =
+    pays_beside_zone_0 a z b h e without =
         let none = (no_sides z h without).0 in
         let at_most = share_within (service.zone_side (service_in m s) z) (weights_in (service.zone_sides (service_in m s)) z) (λ q. none) a in
         let nothing : service.zone_share (service_in m s) z a ≡ 0 = omega (arith, none, at_most) in
@@ -154,71 +154,71 @@ module _ {m : Input} {lent_charges lent_credits : ℕ} (all : Accepted m lent_ch
         ∙ zero-add (service.nonzone_share (service_in m s) a)
 
     -- what an account of zone 0 pays
-    pays-in-zone-0 : (a : ℕ) → a < account_count m → account_zone accounts a ≡ 0 → service_charge m s a ≡ service.nonzone_share (service_in m s) a
+    pays_in_zone_0 : (a : ℕ) → a < account_count m → account_zone accounts a ≡ 0 → service_charge m s a ≡ service.nonzone_share (service_in m s) a
     unfolding service_charge
-    pays-in-zone-0 a b e = promises.charge_at_the_border (service_in m s) fine a b (λ z h q. zone_not_zero z h (sym q ∙ e))
+    pays_in_zone_0 a b e = promises.charge_at_the_border (service_in m s) fine a b (λ z h q. zone_not_zero z h (sym q ∙ e))
 
     -- so what a sharer pays
-    pub pays-the-nonzone-pot : (a : ℕ) → a < account_count m → is_sharer m s a ≡ true → service_charge m s a ≡ service.nonzone_share (service_in m s) a
-    pays-the-nonzone-pot a b shares-in =
+    pub pays_the_nonzone_pot : (a : ℕ) → a < account_count m → is_sharer m s a ≡ true → service_charge m s a ≡ service.nonzone_share (service_in m s) a
+    pays_the_nonzone_pot a b shares-in =
         ⊎_elim
-        (λ (e : account_zone accounts a ≡ 0). pays-in-zone-0 a b e)
+        (λ (e : account_zone accounts a ≡ 0). pays_in_zone_0 a b e)
         (λ (d : account_zone accounts a ≢ 0).
         let known = (all.good.tables Accounts a b).linked d in
         ⊎_elim
-        (λ (e : account_zone accounts a ≡ 0). pays-in-zone-0 a b e)
+        (λ (e : account_zone accounts a ≡ 0). pays_in_zone_0 a b e)
         (λ (without : WithoutRequirement m s (account_zone accounts a)).
-        pays-beside-zone-0 a known.0 b known.1 (sym known.2) (subst (WithoutRequirement m s) (sym known.2) without))
-        ((sharer-exactly m s a).0 shares-in))
+        pays_beside_zone_0 a known.0 b known.1 (sym known.2) (subst (WithoutRequirement m s) (sym known.2) without))
+        ((sharer_exactly m s a).0 shares-in))
         (zero_or_not (account_zone accounts a))
 
     -- a zone's accounts, by use, and the sharers, as lists of their own
-    zone-side-alone : (a z : ℕ) → a < account_count m → z < zone_count m → account_zone accounts a ≡ zone_number zones z
+    zone_side_alone : (a z : ℕ) → a < account_count m → z < zone_count m → account_zone accounts a ≡ zone_number zones z
         → ¬ WithoutRequirement m s (zone_number zones z)
         → service.zone_share (service_in m s) z a ≡ among_accounts m (service.zone_side (service_in m s) z) (zone_number zones z) a
-    zone-side-alone a z b h e required =
+    zone_side_alone a z b h e required =
         promises.zone_share_among_its_accounts (service_in m s) fine z a h b e
         ∙ ap (λ l. at (shares (service.zone_side (service_in m s) z) l) (count a (is_of (account_zone accounts) (zone_number zones z))))
         (kept_eq (account_count m) (is_of (account_zone accounts) (zone_number zones z)) (service_in m s).zone_part (account_use m)
         (λ c l q.
         let same = eqb-true (account_zone accounts c) (zone_number zones z) q in
-        ((parted m s c).with-requirement (λ o. zone_not_zero z h (sym same ∙ o)) (λ without. required (subst (WithoutRequirement m s) same without))).0))
+        ((parted m s c).with_requirement (λ o. zone_not_zero z h (sym same ∙ o)) (λ without. required (subst (WithoutRequirement m s) same without))).0))
 
-    nonzone-pot-alone : (a : ℕ) → a < account_count m → is_sharer m s a ≡ true
+    nonzone_pot_alone : (a : ℕ) → a < account_count m → is_sharer m s a ≡ true
         → service.nonzone_share (service_in m s) a ≡ among_sharers m s (service.nonzone_pot (service_in m s)) a
     unfolding service.nonzone_share turn.nonzone_refusal service.nonzone_parts
-    nonzone-pot-alone a b shares-in =
-        share_alone (account_count m) (service_in m s).nonzone_part (is_sharer m s) (λ c l q. not-sharing m s c q)
+    nonzone_pot_alone a b shares-in =
+        share_alone (account_count m) (service_in m s).nonzone_part (is_sharer m s) (λ c l q. not_sharing m s c q)
         (service.nonzone_pot (service_in m s)) (laws.nonzone_passes fine) a b shares-in
         ∙ ap (λ l. at (shares (service.nonzone_pot (service_in m s)) l) (count a (is_sharer m s)))
         (kept_eq (account_count m) (is_sharer m s) (service_in m s).nonzone_part (sharer_use m) (λ c l q. sharing m s c q))
 
-    pub sharer-paid : (a : ℕ) → a < account_count m → is_sharer m s a ≡ true → service_charge m s a ≡ among_sharers m s (service.nonzone_pot (service_in m s)) a
-    sharer-paid a b shares-in = pays-the-nonzone-pot a b shares-in ∙ nonzone-pot-alone a b shares-in
+    pub sharer_paid : (a : ℕ) → a < account_count m → is_sharer m s a ≡ true → service_charge m s a ≡ among_sharers m s (service.nonzone_pot (service_in m s)) a
+    sharer_paid a b shares-in = pays_the_nonzone_pot a b shares-in ∙ nonzone_pot_alone a b shares-in
 
-    service-paid : (a : ℕ) → a < account_count m → ServicePaid m s a
-    service-paid a b =
+    service_paid : (a : ℕ) → a < account_count m → ServicePaid m s a
+    service_paid a b =
         record {
-          with-requirement = λ z h e required. pays-its-zone-side a z b h e required ∙ zone-side-alone a z b h e required;
-          without-requirement = λ z h e without.
-              sharer-paid a b ((sharer-exactly m s a).1 (inr (subst (WithoutRequirement m s) (sym e) without)));
-          in-zone-0 = λ e. sharer-paid a b ((sharer-exactly m s a).1 (inl e));
+          with_requirement = λ z h e required. pays_its_zone_side a z b h e required ∙ zone_side_alone a z b h e required;
+          without_requirement = λ z h e without.
+              sharer_paid a b ((sharer_exactly m s a).1 (inr (subst (WithoutRequirement m s) (sym e) without)));
+          in_zone_0 = λ e. sharer_paid a b ((sharer_exactly m s a).1 (inl e));
         }
 
     -- an account that has reservations alone in a zone without requirement pays nothing
-    pub reservations-are-free : (a z : ℕ) → a < account_count m → z < zone_count m → account_zone accounts a ≡ zone_number zones z
+    pub reservations_are_free : (a z : ℕ) → a < account_count m → z < zone_count m → account_zone accounts a ≡ zone_number zones z
         → WithoutRequirement m s (zone_number zones z) → contributions m a ≡ 0 → service_charge m s a ≡ 0
     unfolding network_use month.use_of
-    reservations-are-free a z b h e without none =
+    reservations_are_free a z b h e without none =
         let its = subst (WithoutRequirement m s) (sym e) without in
-        pays-the-nonzone-pot a b ((sharer-exactly m s a).1 (inr its))
+        pays_the_nonzone_pot a b ((sharer_exactly m s a).1 (inr its))
         ∙ promises.nonzone_sides_to_nobody_else (service_in m s) fine a b
-        (((parted m s a).without-requirement (λ q. zone_not_zero z h (sym e ∙ q)) its).1 ∙ omega (arith, none))
+        (((parted m s a).without_requirement (λ q. zone_not_zero z h (sym e ∙ q)) its).1 ∙ omega (arith, none))
 
     -- every account pays one or the other
-    pub one-or-the-other : (a : ℕ) → a < account_count m
+    pub one_or_the_other : (a : ℕ) → a < account_count m
         → (is_sharer m s a ≡ true) ⊎ ((z : ℕ) × (z < zone_count m) × (account_zone accounts a ≡ zone_number zones z) × ¬ WithoutRequirement m s (zone_number zones z))
-    one-or-the-other a b =
+    one_or_the_other a b =
         ⊎_elim inl
         (λ (apart : is_sharer m s a ≡ false).
         let tests = neither (eqb (account_zone accounts a) 0) (eqb (zone_credits m s (account_zone accounts a)) 0) apart in
@@ -234,15 +234,15 @@ module _ {m : Input} {lent_charges lent_credits : ℕ} (all : Accepted m lent_ch
         (true_or_false (is_sharer m s a))
 
     -- all of the non-zone pot is the sharers'
-    pub nonzone-pot-to-sharers : sum_to (account_count m) (λ a. when (is_sharer m s a) (service.nonzone_share (service_in m s) a)) ≡ service.nonzone_pot (service_in m s)
-    nonzone-pot-to-sharers =
+    pub nonzone_pot_to_sharers : sum_to (account_count m) (λ a. when (is_sharer m s a) (service.nonzone_share (service_in m s) a)) ≡ service.nonzone_pot (service_in m s)
+    nonzone_pot_to_sharers =
         sum_eq (account_count m) (λ a. when (is_sharer m s a) (service.nonzone_share (service_in m s) a)) (service.nonzone_share (service_in m s))
         (λ a b.
         ⊎_elim
         (λ (q : is_sharer m s a ≡ true). when_true (is_sharer m s a) (service.nonzone_share (service_in m s) a) q)
         (λ (q : is_sharer m s a ≡ false).
         when_false (is_sharer m s a) (service.nonzone_share (service_in m s) a) q
-        ∙ sym (promises.nonzone_sides_to_nobody_else (service_in m s) fine a b (not-sharing m s a q)))
+        ∙ sym (promises.nonzone_sides_to_nobody_else (service_in m s) fine a b (not_sharing m s a q)))
         (true_or_false (is_sharer m s a)))
         ∙ laws.nonzone_add_up (service_in m s) (laws.nonzone_passes fine)
 
@@ -261,22 +261,22 @@ module _ {m : Input} {lent_charges lent_credits : ℕ} (all : Accepted m lent_ch
   unfolding network_charge firm_charge
   paid a b =
       record {
-        for-network = record {
-          in-a-zone = λ z h e. ap (month.charge_at_rate (contributions m a)) (rate_of_zone m lent_charges lent_credits all.good a z h e);
-          in-zone-0 = λ e. ap (month.charge_at_rate (contributions m a)) (rate_at_the_border m lent_charges lent_credits all.good a e);
+        for_network = record {
+          in_a_zone = λ z h e. ap (month.charge_at_rate (contributions m a)) (rate_of_zone m lent_charges lent_credits all.good a z h e);
+          in_zone_0 = λ e. ap (month.charge_at_rate (contributions m a)) (rate_at_the_border m lent_charges lent_credits all.good a e);
         };
-        for-service = λ s i. service-paid s (all.service_fine s i) a b;
-        for-firm = charged_by_own_rows _ _ _;
+        for_service = λ s i. service_paid s (all.service_fine s i) a b;
+        for_firm_lem = charged_by_own_rows _ _ _;
       }
 
   pub credited : (o : ℕ) → o < owner_count m → Credited m o
   unfolding alone nonzone_credit service_credit credit_in unit_credit twelfth through firm_credit firm_pot
   credited o b =
       record {
-        of-its-zone = λ z h e.
+        of_its_zone = λ z h e.
             credit_from_own_zone o z b h e
             ∙ amount_alone (network_pots m) z (zones_unrefused z h) o b (eq-eqb (owner_zone owners o) (zone_number zones z) e);
-        of-zone-0 = refl;
-        of-its-units = λ s. refl;
-        of-firm = refl;
+        of_zone_0 = refl;
+        of_its_units = λ s. refl;
+        of_firm = refl;
       }

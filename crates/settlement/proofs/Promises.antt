@@ -115,18 +115,18 @@ module _ {m : Input} {charges charges_after credits credits_after : List ℕ} {r
   -- acceptance writes each account's four charges and each owner's five credits ..
   pub charges_are_written : r.number ≡ 0 → (column a : ℕ) → column < charge_width → a < account_count m
       → at charges_after (a * charge_width + column) ≡ charge_of m column a
-  charges_are_written = written.charge-word settled
+  charges_are_written = written.charge_word settled
 
   pub credits_are_written : r.number ≡ 0 → (column o : ℕ) → column < credit_width → o < owner_count m
       → at credits_after (o * credit_width + column) ≡ credit_of m column o
-  credits_are_written = written.credit-word settled
+  credits_are_written = written.credit_word settled
 
   -- .. and no word behind them
   pub charges_behind_stay : r.number ≡ 0 → (k : ℕ) → account_count m * charge_width ≤ k → at charges_after k ≡ at charges k
-  charges_behind_stay = written.behind-charges settled
+  charges_behind_stay = written.behind_charges settled
 
   pub credits_behind_stay : r.number ≡ 0 → (k : ℕ) → owner_count m * credit_width ≤ k → at credits_after k ≡ at credits k
-  credits_behind_stay = written.behind-credits settled
+  credits_behind_stay = written.behind_credits settled
 
 module _ {m : Input} {lent_charges lent_credits : ℕ} (all : Accepted m lent_charges lent_credits) where
   open m.tables use {zones, owners, accounts, loads, reservations, firm}
@@ -145,10 +145,10 @@ module _ {m : Input} {lent_charges lent_credits : ℕ} (all : Accepted m lent_ch
   -- a load row's contribution is its account's on its day, and the days' contributions add up to the month's
   pub load_is_of_its_day : (a i : ℕ) → i < load_count m → load_account loads i ≡ account_number accounts a
       → contribution_on m a (load_day loads i) ≡ load_contribution loads i
-  load_is_of_its_day a = days.load-on-its-day m a lent_charges lent_credits all.good
+  load_is_of_its_day a = days.load_on_its_day m a lent_charges lent_credits all.good
 
   pub contributions_day_by_day : (a : ℕ) → contributions m a ≡ sum_to m.days (λ d. contribution_on m a (d + 1))
-  contributions_day_by_day a = days.day-by-day m a lent_charges lent_credits all.good
+  contributions_day_by_day a = days.day_by_day m a lent_charges lent_credits all.good
 
   -- every firm row can be charged: its day is one of a week, and all its entries are in range
   pub firm_rows_are_charged : Costable (terms_of (head_of m)) firm
@@ -205,8 +205,8 @@ module _ {m : Input} {lent_charges lent_credits : ℕ} (all : Accepted m lent_ch
   unfolding service_charge
   service_charges_are_credits s i =
       service.charges_are_pots (service_in m s) (all.service_fine s i)
-      ∙ balance.pots-are-credits m lent_charges lent_credits all.good s
-      ∙ sym (balance.owners-have-credits m lent_charges lent_credits all.good s)
+      ∙ balance.pots_are_credits m lent_charges lent_credits all.good s
+      ∙ sym (balance.owners_have_credits m lent_charges lent_credits all.good s)
 
   -- over the pool the firm charges add up to the firm credits
   pub firm_charges_are_credits : sum_to (account_count m) (firm_charge m) ≡ sum_to (owner_count m) (firm_credit m)
@@ -237,55 +237,55 @@ module _ {m : Input} {lent_charges lent_credits : ℕ} (all : Accepted m lent_ch
     unfolding sum_where
     zone_side_to_its_accounts z b required =
         where_eq (account_count m) (account_zone accounts) (service_charge m s) (zone_number zones z) (zone_share (service_in m s) z)
-        (λ a h e. parts.pays-its-zone-side all s (all.service_fine s i) a z h b e required)
+        (λ a h e. parts.pays_its_zone_side all s (all.service_fine s i) a z h b e required)
         ∙ service.zone_side_to_its_accounts (service_in m s) (all.service_fine s i) z b
 
     -- a zone without requirement has no side ..
-    pub without-requirement-no-sides : (z : ℕ) → z < zone_count m → WithoutRequirement m s (zone_number zones z)
+    pub without_requirement_no_sides : (z : ℕ) → z < zone_count m → WithoutRequirement m s (zone_number zones z)
         → (zone_side (service_in m s) z ≡ 0) × (nonzone_side (service_in m s) z ≡ 0)
-    without-requirement-no-sides = parts.no_sides all s (all.service_fine s i)
+    without_requirement_no_sides = parts.no_sides all s (all.service_fine s i)
 
     -- .. so an account that has energy reserved alone there is charged nothing for the service
-    pub reservations-are-free : (a z : ℕ) → a < account_count m → z < zone_count m → account_zone accounts a ≡ zone_number zones z
+    pub reservations_are_free : (a z : ℕ) → a < account_count m → z < zone_count m → account_zone accounts a ≡ zone_number zones z
         → WithoutRequirement m s (zone_number zones z) → contributions m a ≡ 0 → service_charge m s a ≡ 0
-    reservations-are-free = parts.reservations-are-free all s (all.service_fine s i)
+    reservations_are_free = parts.reservations_are_free all s (all.service_fine s i)
 
     -- the non-zone sides of all zones are fully charged to the accounts of zone 0 and of zones without requirement, and are all that
     -- these are charged
-    pub nonzone-sides-to-sharers : sum_to (account_count m) (λ a. when (is_sharer m s a) (service_charge m s a)) ≡ sum_to (zone_count m) (nonzone_side (service_in m s))
+    pub nonzone_sides_to_sharers : sum_to (account_count m) (λ a. when (is_sharer m s a) (service_charge m s a)) ≡ sum_to (zone_count m) (nonzone_side (service_in m s))
     unfolding nonzone_pot
-    nonzone-sides-to-sharers =
+    nonzone_sides_to_sharers =
         sum_eq (account_count m) (λ a. when (is_sharer m s a) (service_charge m s a)) (λ a. when (is_sharer m s a) (nonzone_share (service_in m s) a))
-        (λ a b. when_eq (is_sharer m s a) (service_charge m s a) (nonzone_share (service_in m s) a) (parts.pays-the-nonzone-pot all s (all.service_fine s i) a b))
-        ∙ parts.nonzone-pot-to-sharers all s (all.service_fine s i)
+        (λ a b. when_eq (is_sharer m s a) (service_charge m s a) (nonzone_share (service_in m s) a) (parts.pays_the_nonzone_pot all s (all.service_fine s i) a b))
+        ∙ parts.nonzone_pot_to_sharers all s (all.service_fine s i)
 
     -- an account that uses nothing is charged nothing for the service
     pub idle_account_is_free : (a : ℕ) → a < account_count m → account_use m a ≡ 0 → service_charge m s a ≡ 0
     unfolding service_charge
     idle_account_is_free a b e =
-        let none = parts.parts-are-use m s a in
+        let none = parts.parts_are_use m s a in
         service.idle_account_is_free (service_in m s) (all.service_fine s i) a b (omega (arith, none)) (omega (arith, none))
 
     -- the paper's words, "divided among that zone's accounts by use", where the zone has a requirement: its accounts as a list of
     -- their own ..
-    pub charge-among-zone-accounts : (a z : ℕ) → a < account_count m → z < zone_count m → account_zone accounts a ≡ zone_number zones z
+    pub charge_among_zone_accounts : (a z : ℕ) → a < account_count m → z < zone_count m → account_zone accounts a ≡ zone_number zones z
         → ¬ WithoutRequirement m s (zone_number zones z) → service_charge m s a ≡ among_accounts m (zone_side (service_in m s) z) (zone_number zones z) a
-    charge-among-zone-accounts a z b h e required = ((parts.paid all a b).for-service s i).with-requirement z h e required
+    charge_among_zone_accounts a z b h e required = ((parts.paid all a b).for_service s i).with_requirement z h e required
 
     -- .. and "those accounts share in the non-zone pot beside zone 0's": those who share as a list of their own
-    pub charge-among-sharers : (a : ℕ) → a < account_count m → (account_zone accounts a ≡ 0) ⊎ WithoutRequirement m s (account_zone accounts a)
+    pub charge_among_sharers : (a : ℕ) → a < account_count m → (account_zone accounts a ≡ 0) ⊎ WithoutRequirement m s (account_zone accounts a)
         → service_charge m s a ≡ among_sharers m s (nonzone_pot (service_in m s)) a
-    charge-among-sharers a b who = parts.sharer-paid all s (all.service_fine s i) a b ((parts.sharer-exactly m s a).1 who)
+    charge_among_sharers a b who = parts.sharer_paid all s (all.service_fine s i) a b ((parts.sharer_exactly m s a).1 who)
 
     -- every account is one of the two: it shares in the non-zone pot, or its zone has a row and a requirement
-    pub charged-one-way : (a : ℕ) → a < account_count m
+    pub charged_one_way : (a : ℕ) → a < account_count m
         → (is_sharer m s a ≡ true) ⊎ ((z : ℕ) × (z < zone_count m) × (account_zone accounts a ≡ zone_number zones z) × ¬ WithoutRequirement m s (zone_number zones z))
-    charged-one-way = parts.one-or-the-other all s (all.service_fine s i)
+    charged_one_way = parts.one_or_the_other all s (all.service_fine s i)
 
   -- "divided among its owners by requirement": the zone's owners as a list of their own
   pub credit_among_zone_owners : (o z : ℕ) → o < owner_count m → z < zone_count m → owner_zone owners o ≡ zone_number zones z
       → network_credit m o ≡ among_owners m (charges_in m (zone_number zones z)) (zone_number zones z) o
-  credit_among_zone_owners o z b h e = (parts.credited all o b).of-its-zone z h e
+  credit_among_zone_owners o z b h e = (parts.credited all o b).of_its_zone z h e
 
   -- all that an account pays, and all that an owner has, in these words
   pub account_pays : (a : ℕ) → a < account_count m → Paid m a
@@ -305,7 +305,7 @@ module _ {m : Input} {charges charges_after credits credits_after : List ℕ} {r
       × (charged_reactive charges_after a ≡ service_charge m reactive a) × (charged_firm charges_after a ≡ firm_charge m a)
   unfolding charge_of
   written_charges a b =
-      let word = written.charge-word settled fine in (word 0 a (omega arith) b, word 1 a (omega arith) b, word 2 a (omega arith) b, word 3 a (omega arith) b)
+      let word = written.charge_word settled fine in (word 0 a (omega arith) b, word 1 a (omega arith) b, word 2 a (omega arith) b, word 3 a (omega arith) b)
 
   pub written_credits : (o : ℕ) → o < owner_count m
       → (credited_network credits_after o ≡ network_credit m o) × (credited_nonzone credits_after o ≡ nonzone_credit m o)
@@ -313,7 +313,7 @@ module _ {m : Input} {charges charges_after credits credits_after : List ℕ} {r
       × (credited_firm credits_after o ≡ firm_credit m o)
   unfolding credit_of
   written_credits o b =
-      let word = written.credit-word settled fine in
+      let word = written.credit_word settled fine in
       (word 0 o (omega arith) b, word 1 o (omega arith) b, word 2 o (omega arith) b, word 3 o (omega arith) b, word 4 o (omega arith) b)
 
   -- their balance, in which nothing is spoken of but these words and the month's tables
@@ -323,43 +323,43 @@ module _ {m : Input} {charges charges_after credits credits_after : List ℕ} {r
       → sum_where (account_count m) (account_zone accounts) (charged_network charges_after) (zone_number zones z)
       ≡ sum_where (owner_count m) (owner_zone owners) (credited_network credits_after) (zone_number zones z)
   written_zone_charges_are_credits z b =
-      written.charges-of-zone settled fine (zone_number zones z)
+      written.charges_of_zone settled fine (zone_number zones z)
       ∙ zone_charges_are_credits (written.all settled fine) z b
-      ∙ sym (written.credits-of-zone settled fine (zone_number zones z))
+      ∙ sym (written.credits_of_zone settled fine (zone_number zones z))
 
   -- the network charges of zone 0's accounts add up to the non-zone credits of all owners
   pub written_zone_0_charges_are_nonzone_credits :
       sum_where (account_count m) (account_zone accounts) (charged_network charges_after) 0 ≡ sum_to (owner_count m) (credited_nonzone credits_after)
   unfolding credit_of
   written_zone_0_charges_are_nonzone_credits =
-      written.charges-of-zone settled fine 0
+      written.charges_of_zone settled fine 0
       ∙ zone_0_charges_are_nonzone_credits (written.all settled fine)
-      ∙ sym (written.credits-of-column settled fine 1 (omega arith))
+      ∙ sym (written.credits_of_column settled fine 1 (omega arith))
 
   -- over the pool the charges for black start are its credits ..
   pub written_black_start_charges_are_credits :
       sum_to (account_count m) (charged_black_start charges_after) ≡ sum_to (owner_count m) (credited_black_start credits_after)
   unfolding charge_of credit_of
   written_black_start_charges_are_credits =
-      written.columns-balance settled fine 1 2 (omega arith) (omega arith) (service_charges_are_credits (written.all settled fine) black_start (inl refl))
+      written.columns_balance settled fine 1 2 (omega arith) (omega arith) (service_charges_are_credits (written.all settled fine) black_start (inl refl))
 
   -- .. those for reactive ..
   pub written_reactive_charges_are_credits :
       sum_to (account_count m) (charged_reactive charges_after) ≡ sum_to (owner_count m) (credited_reactive credits_after)
   unfolding charge_of credit_of
   written_reactive_charges_are_credits =
-      written.columns-balance settled fine 2 3 (omega arith) (omega arith) (service_charges_are_credits (written.all settled fine) reactive (inr refl))
+      written.columns_balance settled fine 2 3 (omega arith) (omega arith) (service_charges_are_credits (written.all settled fine) reactive (inr refl))
 
   -- .. and the firm charges are the firm credits
   pub written_firm_charges_are_credits : sum_to (account_count m) (charged_firm charges_after) ≡ sum_to (owner_count m) (credited_firm credits_after)
   unfolding charge_of credit_of
   written_firm_charges_are_credits =
-      written.columns-balance settled fine 3 4 (omega arith) (omega arith) (firm_charges_are_credits (written.all settled fine))
+      written.columns_balance settled fine 3 4 (omega arith) (omega arith) (firm_charges_are_credits (written.all settled fine))
 
   -- all words that were written to the charges add up to the same as all that were written to the credits
   pub all_written_charges_are_credits : sum_to (account_count m * charge_width) (at charges_after) ≡ sum_to (owner_count m * credit_width) (at credits_after)
   all_written_charges_are_credits =
-      written.all-charges settled fine ∙ all_charges_are_credits (written.all settled fine) ∙ sym (written.all-credits settled fine)
+      written.all_charges_lem settled fine ∙ all_charges_are_credits (written.all settled fine) ∙ sym (written.all_credits_lem settled fine)
 
 -- the network part of an account's use is 24 times its contributions, its energy part reserved less curtailed; they add up to its use
 pub network_and_energy : (m : Input) (a : ℕ)
@@ -376,7 +376,7 @@ pub use_is_parted : (m : Input) (s a : ℕ) → Parted m s a
 use_is_parted = parts.parted
 
 pub parts_add_up : (m : Input) (s a : ℕ) → (service_in m s).zone_part a + (service_in m s).nonzone_part a ≡ account_use m a
-parts_add_up = parts.parts-are-use
+parts_add_up = parts.parts_are_use
 
 -- a zone's pot is divided in two by all zone parts and all non-zone parts, which add up to the use of all accounts, whatever the service
 pub split_by_uses : (m : Input) (s z : ℕ)
@@ -389,7 +389,7 @@ all_use_is_parted = before.all_use
 
 -- the accounts that share in the non-zone pot are those of zone 0 and of zones without requirement
 pub sharers_exactly : (m : Input) (s a : ℕ) → (is_sharer m s a ≡ true) ↔ ((account_zone m.tables.accounts a ≡ 0) ⊎ WithoutRequirement m s (account_zone m.tables.accounts a))
-sharers_exactly = parts.sharer-exactly
+sharers_exactly = parts.sharer_exactly
 
 -- "BASE as before", by the uses outside zone 0 and in it: a split is refused as it was, and of a zone's share, where its split is fine,
 -- no BASE is new. A zone with a requirement divides its side by the same use as before
@@ -403,7 +403,7 @@ share_base_as_before = before.same_base
 pub zone_weights_are_use : (m : Input) (s z : ℕ) → zone_number m.tables.zones z ≢ 0 → ¬ WithoutRequirement m s (zone_number m.tables.zones z)
     → total (weights_in (zone_sides (service_in m s)) z)
     ≡ sum_where (account_count m) (account_zone m.tables.accounts) (account_use m) (zone_number m.tables.zones z)
-zone_weights_are_use = before.weights-are-use
+zone_weights_are_use = before.weights_are_use
 
 -- "A missing load day is zero"
 pub missing_day_is_zero : (m : Input) (a day : ℕ)

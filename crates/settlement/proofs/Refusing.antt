@@ -30,7 +30,7 @@ use Rattle.pool.specs.Services.{service_in}
 use Rattle.firm.specs.Firm.{firm_pot, firm_refusal}
 use Rattle.settlement.specs.Settled.{network_place, network_nonzone_place, black_start_place, reactive_place, firm_place, network_in_turn, divisions_in_turn, answer_of}
 use Rattle.settlement.specs.Accepted.{ZonesFine, NetworkFine}
-use Rattle.settlement.specs.Refused.{Refused, by-tables, at-zone, at_nonzone, in-black-start, in-reactive, at-firm, Places}
+use Rattle.settlement.specs.Refused.{Refused, by_tables, at_zone, at_nonzone, in_black_start, in_reactive, at_firm, Places}
 use Rattle.settlement.proofs.Accepting.{zones_pass, answer_why, tables_accept, network_accepts, services_accept}
 
 module _ (m : Input) (lent_charges lent_credits : ℕ) where
@@ -73,14 +73,14 @@ module _ (m : Input) (lent_charges lent_credits : ℕ) where
   firm_is n = why_size (firm_pot m) (total (requirements m)) n
 
   why_number : (r : Answer) → Refused m lent_charges lent_credits r → r.number ≢ 0
-  why_number r (by-tables why) = judgement.why_number (head_of m) m.tables lent_charges lent_credits r why
-  why_number r (at-zone good z n b before why e) = λ o. (zone_is z n why).1 (sym (ap (λ (a : Answer). a.number) e) ∙ o)
+  why_number r (by_tables why) = judgement.why_number (head_of m) m.tables lent_charges lent_credits r why
+  why_number r (at_zone good z n b before why e) = λ o. (zone_is z n why).1 (sym (ap (λ (a : Answer). a.number) e) ∙ o)
   why_number r (at_nonzone good n before why e) = λ o. (nonzone_is n why).1 (sym (ap (λ (a : Answer). a.number) e) ∙ o)
-  why_number r (in-black-start good network why) =
+  why_number r (in_black_start good network why) =
       ((refused_exactly (service_in m black_start) (black_start_place (zone_count m)) r).0 why).1
-  why_number r (in-reactive good network first why) =
+  why_number r (in_reactive good network first why) =
       ((refused_exactly (service_in m reactive) (reactive_place (zone_count m)) r).0 why).1
-  why_number r (at-firm good n network services why e) = λ o. (firm_is n why).1 (sym (ap (λ (a : Answer). a.number) e) ∙ o)
+  why_number r (at_firm good n network services why e) = λ o. (firm_is n why).1 (sym (ap (λ (a : Answer). a.number) e) ∙ o)
 
   -- a reason that is so is what is answered: all that is looked at earlier passes, and the look that it names does not
   why_answer : (r : Answer) → Refused m lent_charges lent_credits r → answer_of m lent_charges lent_credits ≡ r
@@ -88,9 +88,9 @@ module _ (m : Input) (lent_charges lent_credits : ℕ) where
   why_answer r why = go why (why_number r why)
     where
       go : Refused m lent_charges lent_credits r → r.number ≢ 0 → answer_of m lent_charges lent_credits ≡ r
-      go (by-tables w) d =
+      go (by_tables w) d =
           then_stays d (divisions_in_turn m) (judgement.why_judged (head_of m) m.tables lent_charges lent_credits r w)
-      go (at-zone good z n b before w e) d =
+      go (at_zone good z n b before w e) d =
           then_on (tables_accept m lent_charges lent_credits good)
           (then_stays d firm_answer
           (then_stays d reactive_answer
@@ -103,19 +103,19 @@ module _ (m : Input) (lent_charges lent_credits : ℕ) where
           (then_stays d black_start_answer
           (then_on (all_accepted (network_pots m) network_place (zones_pass m (zone_count m) zones))
           (ap (λ k. refuse k DIVISIONS (zone_count m)) (nonzone_is n w).0 ∙ refuse_some n DIVISIONS (zone_count m) (nonzone_is n w).1 ∙ sym e)))))
-      go (in-black-start good network w) d =
+      go (in_black_start good network w) d =
           then_on (tables_accept m lent_charges lent_credits good)
           (then_stays d firm_answer
           (then_stays d reactive_answer
           (then_on (network_accepts m network)
           ((refused_exactly (service_in m black_start) (black_start_place (zone_count m)) r).0 w).0)))
-      go (in-reactive good network first w) d =
+      go (in_reactive good network first w) d =
           then_on (tables_accept m lent_charges lent_credits good)
           (then_stays d firm_answer
           (then_on
           (then_on (network_accepts m network) (fine_accepted (service_in m black_start) (black_start_place (zone_count m)) first))
           ((refused_exactly (service_in m reactive) (reactive_place (zone_count m)) r).0 w).0))
-      go (at-firm good n network services w e) d =
+      go (at_firm good n network services w e) d =
           then_on (tables_accept m lent_charges lent_credits good)
           (then_on (services_accept m network services)
           (ap (λ k. refuse k DIVISIONS (firm_place (zone_count m))) (firm_is n w).0
@@ -154,21 +154,21 @@ in_service s place r (service.at_nonzone before why e) = omega (arith, its_row e
 module _ (m : Input) (lent_charges lent_credits : ℕ) (r : Answer) where
   tables_elsewhere : reasons.Refused (head_of m) m.tables lent_charges lent_credits r → r.table ≢ DIVISIONS
   tables_elsewhere (reasons.by_count table e before bad) q = not_divisions table (sym (its_table e) ∙ q)
-  tables_elsewhere (reasons.by-charges e all short) q = omega (arith, its_table e, q)
-  tables_elsewhere (reasons.by-credits e all fit short) q = omega (arith, its_table e, q)
-  tables_elsewhere (reasons.by-month e all roomy bad) q = omega (arith, its_table e, q)
-  tables_elsewhere (reasons.by-head e all roomy known bad) q = omega (arith, its_table e, q)
+  tables_elsewhere (reasons.by_charges e all short) q = omega (arith, its_table e, q)
+  tables_elsewhere (reasons.by_credits e all fit short) q = omega (arith, its_table e, q)
+  tables_elsewhere (reasons.by_month e all roomy bad) q = omega (arith, its_table e, q)
+  tables_elsewhere (reasons.by_head e all roomy known bad) q = omega (arith, its_table e, q)
   tables_elsewhere (reasons.by_row table i n e why) q = not_divisions table (sym (its_table e) ∙ q)
 
   pub last_is_firm : Refused m lent_charges lent_credits r → r.table ≡ DIVISIONS → r.row ≡ 5 * zone_count m + 3 → NetworkFine m × (firm_refusal m ≡ r.number)
-  last_is_firm (by-tables why) t row = absurd (tables_elsewhere why t)
-  last_is_firm (at-zone good z n b before why e) t row = absurd (omega (arith, its_row e, row, b))
+  last_is_firm (by_tables why) t row = absurd (tables_elsewhere why t)
+  last_is_firm (at_zone good z n b before why e) t row = absurd (omega (arith, its_row e, row, b))
   last_is_firm (at_nonzone good n before why e) t row = absurd (omega (arith, its_row e, row))
-  last_is_firm (in-black-start good network why) t row =
+  last_is_firm (in_black_start good network why) t row =
       absurd (omega (arith, in_service (service_in m black_start) (black_start_place (zone_count m)) r why, row))
-  last_is_firm (in-reactive good network first why) t row =
+  last_is_firm (in_reactive good network first why) t row =
       absurd (omega (arith, in_service (service_in m reactive) (reactive_place (zone_count m)) r why, row))
-  last_is_firm (at-firm good n network services why e) t row =
+  last_is_firm (at_firm good n network services why e) t row =
       (network, (firm_is m lent_charges lent_credits n why).0 ∙ sym (ap (λ (a : Answer). a.number) e))
 
 pub places : (m : Input) → Places m

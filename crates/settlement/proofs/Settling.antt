@@ -106,21 +106,21 @@ module _ (m : Input) where
   -- the columns of the accounts
   module _ {charges charges_after networks networks_after energies energies_after : List ℕ}
       (filled : AccountsFilled for_accounts charges charges_after networks networks_after energies energies_after) where
-    holds-charges : account_count m ≤ length charges → Holds (account_count m) (network_charge m) charges_after
+    holds_charges : account_count m ≤ length charges → Holds (account_count m) (network_charge m) charges_after
     unfolding network_charge contributions rate
-    holds-charges long = holds (account_count m) (network_charge for_accounts) charges charges_after filled.charged long
+    holds_charges long = holds (account_count m) (network_charge for_accounts) charges charges_after filled.charged long
 
-    holds-uses : account_count m ≤ length networks → account_count m ≤ length energies → UsesHeld m networks_after energies_after
+    holds_uses : account_count m ≤ length networks → account_count m ≤ length energies → UsesHeld m networks_after energies_after
     unfolding network_use energy_use contributions
-    holds-uses long long₂ =
+    holds_uses long long₂ =
         record {
           network_held = holds (account_count m) (network_use for_accounts) networks networks_after filled.network_used long;
           energy_held = holds (account_count m) (energy_use for_accounts) energies energies_after filled.energy_used long₂;
         }
 
   module _ {network : List ℕ} (charges : Holds (account_count m) (network_charge m) network) where
-    can-divide : Settleable m → Divisible m.tables network
-    can-divide can =
+    can_divide : Settleable m → Divisible m.tables network
+    can_divide can =
         record {
           few_zones = can.creditable.few_zones;
           few_owners = can.few_owners;
@@ -134,52 +134,52 @@ module _ (m : Input) where
           };
         }
 
-    holds-zone : (zone : ℕ) → charges_from accounts network zone ≡ charges_in m zone
+    holds_zone : (zone : ℕ) → charges_from accounts network zone ≡ charges_in m zone
     unfolding charges_in
-    holds-zone zone =
+    holds_zone zone =
         where_eq (account_count m) (account_zone accounts) (at network) zone (network_charge m) (λ a b e. charges.words a b)
 
-    same-pots : groups.Same (pots_among_owners zones owners (charges_from accounts network)) (network_pots m)
-    same-pots =
+    same_pots : groups.Same (pots_among_owners zones owners (charges_from accounts network)) (network_pots m)
+    same_pots =
         record {
           same_members = refl;
           same_group = λ i b. refl;
           same_weight = λ i b. refl;
           same_groups = refl;
           same_number = λ z b. refl;
-          same_pot = λ z b. holds-zone (zone_number zones z);
+          same_pot = λ z b. holds_zone (zone_number zones z);
         }
 
     -- the network divisions
     module _ {block block_after : List ℕ} {r : Answer} (divided : NetworkCredited m.tables network block block_after r) where
-      network-answer : r ≡ network_in_turn m
+      network_answer : r ≡ network_in_turn m
       unfolding network_in_turn network_nonzone_refusal requirements
-      network-answer =
+      network_answer =
           divided.answer
           ∙ ap₂ (λ (a : Answer) pot. a then refuse (size_refusal pot (total (listed (owner_count m) (owner_requirement owners)))) DIVISIONS (zone_count m))
-          (groups.same_turn same-pots 0) (holds-zone 0)
+          (groups.same_turn same_pots 0) (holds_zone 0)
 
-      holds-network-credits : r.number ≡ 0 → owner_count m ≤ length (column_at (limit Owners) 0 block)
+      holds_network_credits : r.number ≡ 0 → owner_count m ≤ length (column_at (limit Owners) 0 block)
           → Holds (owner_count m) (network_credit m) (column_at (limit Owners) 0 block_after)
       unfolding network_credit
-      holds-network-credits fine long =
+      holds_network_credits fine long =
           holds (owner_count m) (network_credit m) (column_at (limit Owners) 0 block) (column_at (limit Owners) 0 block_after)
-          ((credited_all divided fine).0 ∙ put_eq (owner_count m) _ (network_credit m) _ (λ i b. groups.same_amounts same-pots i)) long
+          ((credited_all divided fine).0 ∙ put_eq (owner_count m) _ (network_credit m) _ (λ i b. groups.same_amounts same_pots i)) long
 
-      holds-nonzone-credits : r.number ≡ 0 → owner_count m ≤ length (column_at (limit Owners) 1 block)
+      holds_nonzone_credits : r.number ≡ 0 → owner_count m ≤ length (column_at (limit Owners) 1 block)
           → Holds (owner_count m) (nonzone_credit m) (column_at (limit Owners) 1 block_after)
       unfolding nonzone_credit requirements
-      holds-nonzone-credits fine long =
+      holds_nonzone_credits fine long =
           holds (owner_count m) (nonzone_credit m) (column_at (limit Owners) 1 block) (column_at (limit Owners) 1 block_after)
           ((credited_all divided fine).1
           ∙ ap₂ (λ n pot. put n (at (shares pot (listed (owner_count m) (owner_requirement owners)))) (column_at (limit Owners) 1 block))
-          (length_listed (owner_count m) (owner_requirement owners)) (holds-zone 0))
+          (length_listed (owner_count m) (owner_requirement owners)) (holds_zone 0))
           long
 
   -- a service
   module _ {networks energies : List ℕ} (used : UsesHeld m networks energies) where
-    can-use : Settleable m → Usable m.tables networks energies
-    can-use can =
+    can_use : Settleable m → Usable m.tables networks energies
+    can_use can =
         record {
           few = can.fillable.few;
           networks_long = used.network_held.long;
@@ -188,9 +188,9 @@ module _ (m : Input) where
               le_trans (le_of_eq (ap₂ ◌+◌ (used.network_held.words a b) (used.energy_held.words a b) ∙ network_and_energy_add_up m a)) (can.use_within a);
         }
 
-    same-service : (s : ℕ) → services.Same (service_from for_units (at networks) (at energies) s) (service_in m s)
+    same_service : (s : ℕ) → services.Same (service_from for_units (at networks) (at energies) s) (service_in m s)
     unfolding zone_credits credit_in unit_credit
-    same-service s =
+    same_service s =
         record {
           same_accounts = refl;
           same_zone = λ a b. refl;
@@ -204,14 +204,14 @@ module _ (m : Input) where
     module _ (s place : ℕ) {charges charges_after credits credits_after : List ℕ} {r : Answer}
         (settled : ServiceSettled for_units (at networks) (at energies) s place charges charges_after credits credits_after r) where
       served : Served (service_in m s) place charges charges_after r
-      served = services.same_served (same-service s) place charges charges_after r settled.served
+      served = services.same_served (same_service s) place charges charges_after r settled.served
 
-      service-answer : r ≡ service_in_turn (service_in m s) place
-      service-answer = served.answers
+      service_answer : r ≡ service_in_turn (service_in m s) place
+      service_answer = served.answers
 
-      service-left : ColumnsLeft m (service_charge m s) (service_credit m s) (eqb r.number 0) true charges charges_after credits credits_after
+      service_left : ColumnsLeft m (service_charge m s) (service_credit m s) (eqb r.number 0) true charges charges_after credits credits_after
       unfolding service_charge service_credit credit_in unit_credit
-      service-left = record { charges_left = served.lent; credits_left = settled.credited }
+      service_left = record { charges_left = served.lent; credits_left = settled.credited }
 
   -- firm service
   module _ {place : ℕ} {charges charges_after credits credits_after : List ℕ} {r : Answer}
@@ -220,41 +220,41 @@ module _ (m : Input) where
     unfolding firm_refusal firm_pot firm_charge requirements
     firm_answer = settled.answer
 
-    firm-left : ColumnsLeft m (firm_charge m) (firm_credit m) true (eqb (firm_refusal m) 0) charges charges_after credits credits_after
+    firm_left : ColumnsLeft m (firm_charge m) (firm_credit m) true (eqb (firm_refusal m) 0) charges charges_after credits credits_after
     unfolding firm_charge firm_credit firm_pot firm_refusal requirements
-    firm-left = record { charges_left = settled.charged; credits_left = settled.credited }
+    firm_left = record { charges_left = settled.charged; credits_left = settled.credited }
 
-    firm-unrefused : r.number ≡ 0 → firm_refusal m ≡ 0
-    firm-unrefused fine =
+    firm_unrefused : r.number ≡ 0 → firm_refusal m ≡ 0
+    firm_unrefused fine =
         sym (refuse_number (firm_refusal m) DIVISIONS place) ∙ ap (λ (a : Answer). a.number) (sym firm_answer) ∙ fine
 
   -- two blocks with all their columns, each of which has a word for each account, or owner
   module _ {account_block owner_block : List ℕ} (can : Settleable m) (whole : Whole account_block owner_block) where
-    pub account-column : (c : ℕ) → c < charge_width → account_count m ≤ length (column_at (limit Accounts) c account_block)
-    account-column c h =
+    pub account_column : (c : ℕ) → c < charge_width → account_count m ≤ length (column_at (limit Accounts) c account_block)
+    account_column c h =
         le_trans can.fillable.few
         (le_of_eq (sym (columns_long (limit Accounts) c account_block 1 (omega (arith, whole.for_accounts_lem, h)))))
 
-    owner-column : (c : ℕ) → c < credit_width → owner_count m ≤ length (column_at (limit Owners) c owner_block)
-    owner-column c h =
+    owner_column : (c : ℕ) → c < credit_width → owner_count m ≤ length (column_at (limit Owners) c owner_block)
+    owner_column c h =
         le_trans can.few_owners (le_of_eq (sym (columns_long (limit Owners) c owner_block 1 (omega (arith, whole.for_owners, h)))))
 
     -- the network charges, lent as the first column of the accounts
     module _ {charges networks networks_after energies energies_after : List ℕ}
         (filled : AccountsFilled for_accounts (column_at (limit Accounts) 0 account_block) charges networks networks_after energies energies_after) where
-      network-lent : ColumnLent (limit Accounts) 0 account_block charges (with_columns (limit Accounts) 0 1 charges account_block)
-      network-lent =
+      network_lent : ColumnLent (limit Accounts) 0 account_block charges (with_columns (limit Accounts) 0 1 charges account_block)
+      network_lent =
           stored_lent (limit Accounts) 0 account_block (omega (arith, whole.for_accounts_lem)) (account_count m) (network_charge for_accounts) filled.charged
 
-      filled-whole : Whole (with_columns (limit Accounts) 0 1 charges account_block) owner_block
-      filled-whole = record { for_accounts_lem = network-lent.long ∙ whole.for_accounts_lem; for_owners = whole.for_owners }
+      filled_whole : Whole (with_columns (limit Accounts) 0 1 charges account_block) owner_block
+      filled_whole = record { for_accounts_lem = network_lent.long ∙ whole.for_accounts_lem; for_owners = whole.for_owners }
 
       charged : Holds (account_count m) (network_charge m) (column_at (limit Accounts) 0 (with_columns (limit Accounts) 0 1 charges account_block))
-      charged = carried network-lent.its (holds-charges filled (account-column 0 (omega arith)))
+      charged = carried network_lent.its (holds_charges filled (account_column 0 (omega arith)))
 
     -- the network credits, lent as the first two columns of the owners, the second of zeros
-    credit-columns : Zeros owner_block → CreditColumns (columns_from (limit Owners) 0 2 owner_block)
-    credit-columns zeros =
+    credit_columns : Zeros owner_block → CreditColumns (columns_from (limit Owners) 0 2 owner_block)
+    credit_columns zeros =
         record {
           long = columns_long (limit Owners) 0 owner_block 2 (omega (arith, whole.for_owners));
           zeros = λ i.
@@ -264,30 +264,30 @@ module _ (m : Input) where
 
     part_room : (c : ℕ) → c < 2 → owner_count m ≤ length (column_at (limit Owners) c (columns_from (limit Owners) 0 2 owner_block))
     part_room c h =
-        le_trans (owner-column c (omega (arith, h)))
+        le_trans (owner_column c (omega (arith, h)))
         (le_of_eq
         (ap (λ k. length (column_at (limit Owners) k owner_block)) (sym (zero-add c))
         ∙ ap length (sym (part_column (limit Owners) 0 2 owner_block (omega (arith, whole.for_owners)) c h))))
 
     module _ {network : List ℕ} (charges : Holds (account_count m) (network_charge m) network) {networkcredits : List ℕ} {r : Answer}
         (divided : NetworkCredited m.tables network (columns_from (limit Owners) 0 2 owner_block) networkcredits r) where
-      network-credits-lent : ColumnsLent (limit Owners) 0 2 owner_block networkcredits (with_columns (limit Owners) 0 2 networkcredits owner_block)
-      network-credits-lent =
+      network_credits_lent : ColumnsLent (limit Owners) 0 2 owner_block networkcredits (with_columns (limit Owners) 0 2 networkcredits owner_block)
+      network_credits_lent =
           columns_lent (limit Owners) 0 2 owner_block (omega (arith, whole.for_owners)) networkcredits
           (divided.long ∙ columns_long (limit Owners) 0 owner_block 2 (omega (arith, whole.for_owners)))
 
-      credited-whole : Whole account_block (with_columns (limit Owners) 0 2 networkcredits owner_block)
-      credited-whole = record { for_accounts_lem = whole.for_accounts_lem; for_owners = network-credits-lent.long ∙ whole.for_owners }
+      credited_whole : Whole account_block (with_columns (limit Owners) 0 2 networkcredits owner_block)
+      credited_whole = record { for_accounts_lem = whole.for_accounts_lem; for_owners = network_credits_lent.long ∙ whole.for_owners }
 
-      credits-of-zones : r.number ≡ 0
+      credits_of_zones : r.number ≡ 0
           → Holds (owner_count m) (network_credit m) (column_at (limit Owners) 0 (with_columns (limit Owners) 0 2 networkcredits owner_block))
-      credits-of-zones fine =
-          carried (network-credits-lent.inside 0 (omega arith)) (holds-network-credits charges divided fine (part_room 0 (omega arith)))
+      credits_of_zones fine =
+          carried (network_credits_lent.inside 0 (omega arith)) (holds_network_credits charges divided fine (part_room 0 (omega arith)))
 
-      credits-of-zone-0 : r.number ≡ 0
+      credits_of_zone_0 : r.number ≡ 0
           → Holds (owner_count m) (nonzone_credit m) (column_at (limit Owners) 1 (with_columns (limit Owners) 0 2 networkcredits owner_block))
-      credits-of-zone-0 fine =
-          carried (network-credits-lent.inside 1 (omega arith)) (holds-nonzone-credits charges divided fine (part_room 1 (omega arith)))
+      credits_of_zone_0 fine =
+          carried (network_credits_lent.inside 1 (omega arith)) (holds_nonzone_credits charges divided fine (part_room 1 (omega arith)))
 
     -- a call that is lent column c of the accounts and column d of the owners
     module _ (c d : ℕ) (h : c < charge_width) (k : d < credit_width) {charge credit : ℕ → ℕ} {charged? credited? : Bool} {charges credits : List ℕ}
@@ -298,14 +298,14 @@ module _ (m : Input) where
       credits_lent : ColumnLent (limit Owners) d owner_block credits (with_columns (limit Owners) d 1 credits owner_block)
       credits_lent = lent_or_left (limit Owners) d owner_block (omega (arith, whole.for_owners, k)) (owner_count m) credit credited? left.credits_left
 
-      left-whole : Whole (with_columns (limit Accounts) c 1 charges account_block) (with_columns (limit Owners) d 1 credits owner_block)
-      left-whole = record { for_accounts_lem = charges_lent.long ∙ whole.for_accounts_lem; for_owners = credits_lent.long ∙ whole.for_owners }
+      left_whole : Whole (with_columns (limit Accounts) c 1 charges account_block) (with_columns (limit Owners) d 1 credits owner_block)
+      left_whole = record { for_accounts_lem = charges_lent.long ∙ whole.for_accounts_lem; for_owners = credits_lent.long ∙ whole.for_owners }
 
-      charges-hold : charged? ≡ true → Holds (account_count m) charge (column_at (limit Accounts) c (with_columns (limit Accounts) c 1 charges account_block))
-      charges-hold e = carried charges_lent.its (holds (account_count m) charge (column_at (limit Accounts) c account_block) charges (left.charges_left ∙ (rw e)) (account-column c h))
+      charges_hold : charged? ≡ true → Holds (account_count m) charge (column_at (limit Accounts) c (with_columns (limit Accounts) c 1 charges account_block))
+      charges_hold e = carried charges_lent.its (holds (account_count m) charge (column_at (limit Accounts) c account_block) charges (left.charges_left ∙ (rw e)) (account_column c h))
 
-      credits-hold : credited? ≡ true → Holds (owner_count m) credit (column_at (limit Owners) d (with_columns (limit Owners) d 1 credits owner_block))
-      credits-hold e = carried credits_lent.its (holds (owner_count m) credit (column_at (limit Owners) d owner_block) credits (left.credits_left ∙ (rw e)) (owner-column d k))
+      credits_hold : credited? ≡ true → Holds (owner_count m) credit (column_at (limit Owners) d (with_columns (limit Owners) d 1 credits owner_block))
+      credits_hold e = carried credits_lent.its (holds (owner_count m) credit (column_at (limit Owners) d owner_block) credits (left.credits_left ∙ (rw e)) (owner_column d k))
 
 -- A month that can be settled, with two new blocks, of which the accounts' first column is filled, and two columns with the parts of
 -- the accounts' use, which were lent with a word for each account that there may be.
@@ -325,23 +325,23 @@ module _ {m : Input} {accounts₀ owners₀ charges lent networks energies : Lis
   accounts₁ = with_columns (limit Accounts) 0 1 charges accounts₀
 
   pub whole₁ : Whole accounts₁ owners₀
-  whole₁ = filled-whole m b.can (new_whole b.new) b.filled
+  whole₁ = filled_whole m b.can (new_whole b.new) b.filled
 
   network_charges : Holds (account_count m) (network_charge m) (column_at (limit Accounts) 0 accounts₁)
   network_charges = charged m b.can (new_whole b.new) b.filled
 
   used : UsesHeld m networks energies
-  used = holds-uses m b.filled b.room b.room
+  used = holds_uses m b.filled b.room b.room
 
   pub divisible : Divisible m.tables (column_at (limit Accounts) 0 accounts₁) × CreditColumns (columns_from (limit Owners) 0 2 owners₀)
-  divisible = (can-divide m network_charges b.can, credit-columns m b.can whole₁ b.new.new)
+  divisible = (can_divide m network_charges b.can, credit_columns m b.can whole₁ b.new.new)
 
   -- what a service asks for, with two columns of whole blocks
   pub servable : {account_block owner_block : List ℕ} → Whole account_block owner_block → (c d : ℕ) → c < charge_width → d < credit_width
       → (Creditable (units_input m.month m.tables) × Usable m.tables networks energies)
       × (account_count m ≤ length (column_at (limit Accounts) c account_block)) × (owner_count m ≤ length (column_at (limit Owners) d owner_block))
   servable whole c d h k =
-      ((b.can.creditable, can-use m used b.can), account-column m b.can whole c h, owner-column m b.can whole d k)
+      ((b.can.creditable, can_use m used b.can), account_column m b.can whole c h, owner_column m b.can whole d k)
 
   -- .. the network credits ..
   module _ {networkcredits : List ℕ} {first : Answer}
@@ -350,7 +350,7 @@ module _ {m : Input} {accounts₀ owners₀ charges lent networks energies : Lis
     owners₁ = with_columns (limit Owners) 0 2 networkcredits owners₀
 
     pub whole₂ : Whole accounts₁ owners₁
-    whole₂ = credited-whole m b.can whole₁ network_charges divided
+    whole₂ = credited_whole m b.can whole₁ network_charges divided
 
     -- .. black start ..
     module _ {s place : ℕ} {blackstart blackstartcredits : List ℕ} {second : Answer}
@@ -362,10 +362,10 @@ module _ {m : Input} {accounts₀ owners₀ charges lent networks energies : Lis
       owners₂ = with_columns (limit Owners) 2 1 blackstartcredits owners₁
 
       left₂ : ColumnsLeft m (service_charge m s) (service_credit m s) (eqb second.number 0) true (column_at (limit Accounts) 1 accounts₁) blackstart (column_at (limit Owners) 2 owners₁) blackstartcredits
-      left₂ = service-left m used s place served
+      left₂ = service_left m used s place served
 
       pub whole₃ : Whole accounts₂ owners₂
-      whole₃ = left-whole m b.can whole₂ 1 2 (omega arith) (omega arith) left₂
+      whole₃ = left_whole m b.can whole₂ 1 2 (omega arith) (omega arith) left₂
 
       -- .. reactive ..
       module _ {s' place' : ℕ} {reactives reactivecredits : List ℕ} {third : Answer}
@@ -377,28 +377,28 @@ module _ {m : Input} {accounts₀ owners₀ charges lent networks energies : Lis
         owners₃ = with_columns (limit Owners) 3 1 reactivecredits owners₂
 
         left₃ : ColumnsLeft m (service_charge m s') (service_credit m s') (eqb third.number 0) true (column_at (limit Accounts) 2 accounts₂) reactives (column_at (limit Owners) 3 owners₂) reactivecredits
-        left₃ = service-left m used s' place' served-too
+        left₃ = service_left m used s' place' served-too
 
         pub whole₄ : Whole accounts₃ owners₃
-        whole₄ = left-whole m b.can whole₃ 2 3 (omega arith) (omega arith) left₃
+        whole₄ = left_whole m b.can whole₃ 2 3 (omega arith) (omega arith) left₃
 
-        blackstart-lent : ColumnLent (limit Accounts) 1 accounts₁ blackstart accounts₂
-        blackstart-lent = charges_lent m b.can whole₂ 1 2 (omega arith) (omega arith) left₂
+        blackstart_lent : ColumnLent (limit Accounts) 1 accounts₁ blackstart accounts₂
+        blackstart_lent = charges_lent m b.can whole₂ 1 2 (omega arith) (omega arith) left₂
 
-        reactive-lent : ColumnLent (limit Accounts) 2 accounts₂ reactives accounts₃
-        reactive-lent = charges_lent m b.can whole₃ 2 3 (omega arith) (omega arith) left₃
+        reactive_lent : ColumnLent (limit Accounts) 2 accounts₂ reactives accounts₃
+        reactive_lent = charges_lent m b.can whole₃ 2 3 (omega arith) (omega arith) left₃
 
-        blackstart-credited : ColumnLent (limit Owners) 2 owners₁ blackstartcredits owners₂
-        blackstart-credited = credits_lent m b.can whole₂ 1 2 (omega arith) (omega arith) left₂
+        blackstart_credited : ColumnLent (limit Owners) 2 owners₁ blackstartcredits owners₂
+        blackstart_credited = credits_lent m b.can whole₂ 1 2 (omega arith) (omega arith) left₂
 
-        reactive-credited : ColumnLent (limit Owners) 3 owners₂ reactivecredits owners₃
-        reactive-credited = credits_lent m b.can whole₃ 2 3 (omega arith) (omega arith) left₃
+        reactive_credited : ColumnLent (limit Owners) 3 owners₂ reactivecredits owners₃
+        reactive_credited = credits_lent m b.can whole₃ 2 3 (omega arith) (omega arith) left₃
 
         -- the last column of the owners is still as it was
-        last-zeros : Zeros (column_at (limit Owners) 4 owners₃)
-        last-zeros i =
+        last_zeros : Zeros (column_at (limit Owners) 4 owners₃)
+        last_zeros i =
             ap (λ l. at l i)
-            (reactive-credited.others 4 refl ∙ blackstart-credited.others 4 refl ∙ (network-credits-lent m b.can whole₁ network_charges divided).behind 2)
+            (reactive_credited.others 4 refl ∙ blackstart_credited.others 4 refl ∙ (network_credits_lent m b.can whole₁ network_charges divided).behind 2)
             ∙ column_zeros (limit Owners) 4 owners₀ b.new.new i
 
         -- what firm service asks for
@@ -407,9 +407,9 @@ module _ {m : Input} {accounts₀ owners₀ charges lent networks energies : Lis
         reservable = (
           b.can.reservable,
           record {
-            charges_long = account-column m b.can whole₄ 3 (omega arith);
-            credits_long = owner-column m b.can whole₄ 4 (omega arith);
-            zeros = last-zeros;
+            charges_long = account_column m b.can whole₄ 3 (omega arith);
+            credits_long = owner_column m b.can whole₄ 4 (omega arith);
+            zeros = last_zeros;
           },
         )
 
@@ -423,73 +423,73 @@ module _ {m : Input} {accounts₀ owners₀ charges lent networks energies : Lis
           owners₄ = with_columns (limit Owners) 4 1 firmcredits owners₃
 
           left₄ : ColumnsLeft m (firm_charge m) (firm_credit m) true (eqb (firm_refusal m) 0) (column_at (limit Accounts) 3 accounts₃) firmcharges (column_at (limit Owners) 4 owners₃) firmcredits
-          left₄ = firm-left m firm
+          left₄ = firm_left m firm
 
           pub whole₅ : Whole accounts₄ owners₄
-          whole₅ = left-whole m b.can whole₄ 3 4 (omega arith) (omega arith) left₄
+          whole₅ = left_whole m b.can whole₄ 3 4 (omega arith) (omega arith) left₄
 
-          firm-lent : ColumnLent (limit Accounts) 3 accounts₃ firmcharges accounts₄
-          firm-lent = charges_lent m b.can whole₄ 3 4 (omega arith) (omega arith) left₄
+          firm_lent : ColumnLent (limit Accounts) 3 accounts₃ firmcharges accounts₄
+          firm_lent = charges_lent m b.can whole₄ 3 4 (omega arith) (omega arith) left₄
 
-          firm-credited : ColumnLent (limit Owners) 4 owners₃ firmcredits owners₄
-          firm-credited = credits_lent m b.can whole₄ 3 4 (omega arith) (omega arith) left₄
+          firm_credited : ColumnLent (limit Owners) 4 owners₃ firmcredits owners₄
+          firm_credited = credits_lent m b.can whole₄ 3 4 (omega arith) (omega arith) left₄
 
           module _ (its : s ≡ black_start) (its-too : s' ≡ reactive) where
             -- what the columns hold at the end, where nothing is refused
-            charge-columns : second.number ≡ 0 → third.number ≡ 0 → BlockHolds (account_count m) charge_width (charge_of m) (limit Accounts) accounts₄
+            charge_columns : second.number ≡ 0 → third.number ≡ 0 → BlockHolds (account_count m) charge_width (charge_of m) (limit Accounts) accounts₄
             unfolding charge_of
-            charge-columns fine fine-too zero h =
-                carried (firm-lent.others 0 refl ∙ reactive-lent.others 0 refl ∙ blackstart-lent.others 0 refl) network_charges
-            charge-columns fine fine-too (suc zero) h =
-                carried (firm-lent.others 1 refl ∙ reactive-lent.others 1 refl)
-                (named (account_count m) (service_charge m) its (charges-hold m b.can whole₂ 1 2 (omega arith) (omega arith) left₂ (eq-eqb second.number 0 fine)))
-            charge-columns fine fine-too (suc (suc zero)) h =
-                carried (firm-lent.others 2 refl)
-                (named (account_count m) (service_charge m) its-too (charges-hold m b.can whole₃ 2 3 (omega arith) (omega arith) left₃ (eq-eqb third.number 0 fine-too)))
-            charge-columns fine fine-too (suc (suc (suc zero))) h = charges-hold m b.can whole₄ 3 4 (omega arith) (omega arith) left₄ refl
-            charge-columns fine fine-too (suc (suc (suc (suc column)))) h = absurd (omega (arith, h))
+            charge_columns fine fine-too zero h =
+                carried (firm_lent.others 0 refl ∙ reactive_lent.others 0 refl ∙ blackstart_lent.others 0 refl) network_charges
+            charge_columns fine fine-too (suc zero) h =
+                carried (firm_lent.others 1 refl ∙ reactive_lent.others 1 refl)
+                (named (account_count m) (service_charge m) its (charges_hold m b.can whole₂ 1 2 (omega arith) (omega arith) left₂ (eq-eqb second.number 0 fine)))
+            charge_columns fine fine-too (suc (suc zero)) h =
+                carried (firm_lent.others 2 refl)
+                (named (account_count m) (service_charge m) its-too (charges_hold m b.can whole₃ 2 3 (omega arith) (omega arith) left₃ (eq-eqb third.number 0 fine-too)))
+            charge_columns fine fine-too (suc (suc (suc zero))) h = charges_hold m b.can whole₄ 3 4 (omega arith) (omega arith) left₄ refl
+            charge_columns fine fine-too (suc (suc (suc (suc column)))) h = absurd (omega (arith, h))
 
-            credit-columns-hold : first.number ≡ 0 → fourth.number ≡ 0 → BlockHolds (owner_count m) credit_width (credit_of m) (limit Owners) owners₄
+            credit_columns_hold : first.number ≡ 0 → fourth.number ≡ 0 → BlockHolds (owner_count m) credit_width (credit_of m) (limit Owners) owners₄
             unfolding credit_of
-            credit-columns-hold fine fine-too zero h =
-                carried (firm-credited.others 0 refl ∙ reactive-credited.others 0 refl ∙ blackstart-credited.others 0 refl)
-                (credits-of-zones m b.can whole₁ network_charges divided fine)
-            credit-columns-hold fine fine-too (suc zero) h =
-                carried (firm-credited.others 1 refl ∙ reactive-credited.others 1 refl ∙ blackstart-credited.others 1 refl)
-                (credits-of-zone-0 m b.can whole₁ network_charges divided fine)
-            credit-columns-hold fine fine-too (suc (suc zero)) h =
-                carried (firm-credited.others 2 refl ∙ reactive-credited.others 2 refl)
-                (named (owner_count m) (service_credit m) its (credits-hold m b.can whole₂ 1 2 (omega arith) (omega arith) left₂ refl))
-            credit-columns-hold fine fine-too (suc (suc (suc zero))) h =
-                carried (firm-credited.others 3 refl)
-                (named (owner_count m) (service_credit m) its-too (credits-hold m b.can whole₃ 2 3 (omega arith) (omega arith) left₃ refl))
-            credit-columns-hold fine fine-too (suc (suc (suc (suc zero)))) h =
-                credits-hold m b.can whole₄ 3 4 (omega arith) (omega arith) left₄ (eq-eqb (firm_refusal m) 0 (firm-unrefused m firm fine-too))
-            credit-columns-hold fine fine-too (suc (suc (suc (suc (suc column))))) h = absurd (omega (arith, h))
+            credit_columns_hold fine fine-too zero h =
+                carried (firm_credited.others 0 refl ∙ reactive_credited.others 0 refl ∙ blackstart_credited.others 0 refl)
+                (credits_of_zones m b.can whole₁ network_charges divided fine)
+            credit_columns_hold fine fine-too (suc zero) h =
+                carried (firm_credited.others 1 refl ∙ reactive_credited.others 1 refl ∙ blackstart_credited.others 1 refl)
+                (credits_of_zone_0 m b.can whole₁ network_charges divided fine)
+            credit_columns_hold fine fine-too (suc (suc zero)) h =
+                carried (firm_credited.others 2 refl ∙ reactive_credited.others 2 refl)
+                (named (owner_count m) (service_credit m) its (credits_hold m b.can whole₂ 1 2 (omega arith) (omega arith) left₂ refl))
+            credit_columns_hold fine fine-too (suc (suc (suc zero))) h =
+                carried (firm_credited.others 3 refl)
+                (named (owner_count m) (service_credit m) its-too (credits_hold m b.can whole₃ 2 3 (omega arith) (omega arith) left₃ refl))
+            credit_columns_hold fine fine-too (suc (suc (suc (suc zero)))) h =
+                credits_hold m b.can whole₄ 3 4 (omega arith) (omega arith) left₄ (eq-eqb (firm_refusal m) 0 (firm_unrefused m firm fine-too))
+            credit_columns_hold fine fine-too (suc (suc (suc (suc (suc column))))) h = absurd (omega (arith, h))
 
             -- all divisions of the month
             module _ {r : Answer} (there : place ≡ black_start_place (zone_count m)) (there-too : place' ≡ reactive_place (zone_count m))
                 (there-last : place'' ≡ firm_place (zone_count m)) (answer : r ≡ (first then second then third then fourth)) where
-              in-turn : (first then second then third then fourth) ≡ divisions_in_turn m
+              in_turn : (first then second then third then fourth) ≡ divisions_in_turn m
               unfolding divisions_in_turn
-              in-turn =
-                  let network-turn : first ≡ network_in_turn m = network-answer m network_charges divided in
+              in_turn =
+                  let network-turn : first ≡ network_in_turn m = network_answer m network_charges divided in
                   let blackstart-turn : second ≡ service_in_turn (service_in m black_start) (black_start_place (zone_count m)) =
-                  service-answer m used s place served ∙ ap₂ (λ k. service_in_turn (service_in m k)) its there in
+                  service_answer m used s place served ∙ ap₂ (λ k. service_in_turn (service_in m k)) its there in
                   let reactive-turn : third ≡ service_in_turn (service_in m reactive) (reactive_place (zone_count m)) =
-                  service-answer m used s' place' served-too ∙ ap₂ (λ k. service_in_turn (service_in m k)) its-too there-too in
+                  service_answer m used s' place' served-too ∙ ap₂ (λ k. service_in_turn (service_in m k)) its-too there-too in
                   let firm-turn : fourth ≡ refuse (firm_refusal m) DIVISIONS (firm_place (zone_count m)) =
                   firm_answer m firm ∙ ap (refuse (firm_refusal m) DIVISIONS) there-last in
                   λ i. network-turn i then blackstart-turn i then reactive-turn i then firm-turn i
 
-              pub month-divided : MonthDivided m accounts₄ owners₄ r
-              month-divided =
+              pub month_divided : MonthDivided m accounts₄ owners₄ r
+              month_divided =
                   record {
-                    answer = answer ∙ in-turn;
+                    answer = answer ∙ in_turn;
                     columns = λ fine.
                         let all : ((first then second then third).number ≡ 0) × (fourth.number ≡ 0) =
                         then_none (first then second then third) fourth (ap (λ (a : Answer). a.number) (sym answer) ∙ fine) in
                         let more : ((first then second).number ≡ 0) × (third.number ≡ 0) = then_none (first then second) third all.0 in
                         let some : (first.number ≡ 0) × (second.number ≡ 0) = then_none first second more.0 in
-                        record { charges = charge-columns some.1 more.1; credits = credit-columns-hold some.0 all.1 };
+                        record { charges = charge_columns some.1 more.1; credits = credit_columns_hold some.0 all.1 };
                   }

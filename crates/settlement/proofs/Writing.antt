@@ -83,21 +83,21 @@ module _ (head : Head) (t : Tables) (charges credits : List ℕ) where
     told : (judgement.number ≡ 0) × (month ≡ month_in head)
     told = good_told (month_in head) month judgement handed
 
-    same-month : month_with month head t ≡ month_of head t
-    same-month = ap (λ k. month_with k head t) told.1
+    same_month : month_with month head t ≡ month_of head t
+    same_month = ap (λ k. month_with k head t) told.1
 
-    pub handed-on : GoodInput (month_of head t) (length charges) (length credits)
-    handed-on = judged_good head t (length charges) (length credits) told.0
+    pub handed_on : GoodInput (month_of head t) (length charges) (length credits)
+    handed_on = judged_good head t (length charges) (length credits) told.0
 
-    pub can-settle : Settleable (month_with month head t)
-    can-settle = subst Settleable (sym same-month) (settleable (month_of head t) (length charges) (length credits) handed-on)
+    pub can_settle : Settleable (month_with month head t)
+    can_settle = subst Settleable (sym same_month) (settleable (month_of head t) (length charges) (length credits) handed_on)
 
     pub all_settled : {charges_after credits_after : List ℕ} {r : Answer} → GoodSettled (month_with month head t) charges charges_after credits credits_after r
         → Settled (month_of head t) charges charges_after credits credits_after r
     unfolding answer_of
     all_settled {charges_after} {credits_after} {r} settled =
         let s : GoodSettled (month_of head t) charges charges_after credits credits_after r =
-        subst (λ m. GoodSettled m charges charges_after credits credits_after r) same-month settled in
+        subst (λ m. GoodSettled m charges charges_after credits credits_after r) same_month settled in
         record {
           answer = s.answer ∙ sym (then_second judgement (divisions_in_turn (month_of head t)) told.0);
           charges_lent = s.charges_lent;

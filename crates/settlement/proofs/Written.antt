@@ -78,67 +78,67 @@ module _ {m : Input} {charges charges_after credits credits_after : List ℕ} {r
     pub all : Accepted m (length charges) (length credits)
     all = answer_accepted m (length charges) (length credits) (ap (λ (a : Answer). a.number) (sym settled.answer) ∙ fine)
 
-    charges-are : charges_after ≡ charge_words m charges
-    charges-are = settled.charges_lent ∙ (rw (eq-eqb r.number 0 fine))
+    charges_are : charges_after ≡ charge_words m charges
+    charges_are = settled.charges_lent ∙ (rw (eq-eqb r.number 0 fine))
 
-    credits-are : credits_after ≡ credit_words m credits
-    credits-are = settled.credits_lent ∙ (rw (eq-eqb r.number 0 fine))
+    credits_are : credits_after ≡ credit_words m credits
+    credits_are = settled.credits_lent ∙ (rw (eq-eqb r.number 0 fine))
 
     -- the words that were written
-    pub charges-held : Holds (account_count m * charge_width) (laid charge_width (charge_of m)) charges_after
+    pub charges_held : Holds (account_count m * charge_width) (laid charge_width (charge_of m)) charges_after
     unfolding charge_words
-    charges-held =
-        holds (account_count m * charge_width) (laid charge_width (charge_of m)) charges charges_after charges-are all.good.frame.roomy.charges_fit
+    charges_held =
+        holds (account_count m * charge_width) (laid charge_width (charge_of m)) charges charges_after charges_are all.good.frame.roomy.charges_fit
 
-    pub credits-held : Holds (owner_count m * credit_width) (laid credit_width (credit_of m)) credits_after
+    pub credits_held : Holds (owner_count m * credit_width) (laid credit_width (credit_of m)) credits_after
     unfolding credit_words
-    credits-held =
-        holds (owner_count m * credit_width) (laid credit_width (credit_of m)) credits credits_after credits-are all.good.frame.roomy.credits_fit
+    credits_held =
+        holds (owner_count m * credit_width) (laid credit_width (credit_of m)) credits credits_after credits_are all.good.frame.roomy.credits_fit
 
-    pub charge-word : (column a : ℕ) → column < charge_width → a < account_count m → figure_at charge_width charges_after column a ≡ charge_of m column a
-    charge-word = figures_held (account_count m) charge_width (charge_of m) charges_after charges-held
+    pub charge_word : (column a : ℕ) → column < charge_width → a < account_count m → figure_at charge_width charges_after column a ≡ charge_of m column a
+    charge_word = figures_held (account_count m) charge_width (charge_of m) charges_after charges_held
 
-    pub credit-word : (column o : ℕ) → column < credit_width → o < owner_count m → figure_at credit_width credits_after column o ≡ credit_of m column o
-    credit-word = figures_held (owner_count m) credit_width (credit_of m) credits_after credits-held
+    pub credit_word : (column o : ℕ) → column < credit_width → o < owner_count m → figure_at credit_width credits_after column o ≡ credit_of m column o
+    credit_word = figures_held (owner_count m) credit_width (credit_of m) credits_after credits_held
 
     -- .. and those behind them
-    pub behind-charges : (k : ℕ) → account_count m * charge_width ≤ k → at charges_after k ≡ at charges k
+    pub behind_charges : (k : ℕ) → account_count m * charge_width ≤ k → at charges_after k ≡ at charges k
     unfolding charge_words
-    behind-charges k h = ap (λ l. at l k) charges-are ∙ put_ahead (account_count m * charge_width) (laid charge_width (charge_of m)) charges k h
+    behind_charges k h = ap (λ l. at l k) charges_are ∙ put_ahead (account_count m * charge_width) (laid charge_width (charge_of m)) charges k h
 
-    pub behind-credits : (k : ℕ) → owner_count m * credit_width ≤ k → at credits_after k ≡ at credits k
+    pub behind_credits : (k : ℕ) → owner_count m * credit_width ≤ k → at credits_after k ≡ at credits k
     unfolding credit_words
-    behind-credits k h = ap (λ l. at l k) credits-are ∙ put_ahead (owner_count m * credit_width) (laid credit_width (credit_of m)) credits k h
+    behind_credits k h = ap (λ l. at l k) credits_are ∙ put_ahead (owner_count m * credit_width) (laid credit_width (credit_of m)) credits k h
 
     -- the network charges of a zone's accounts, and the network credits of its owners
-    pub charges-of-zone : (zone : ℕ) → sum_where (account_count m) (account_zone accounts) (charged_network charges_after) zone ≡ charges_in m zone
+    pub charges_of_zone : (zone : ℕ) → sum_where (account_count m) (account_zone accounts) (charged_network charges_after) zone ≡ charges_in m zone
     unfolding charges_in charge_of
-    charges-of-zone zone =
-        where_held (account_count m) charge_width (charge_of m) charges_after charges-held 0 (omega arith) (account_zone accounts) zone
+    charges_of_zone zone =
+        where_held (account_count m) charge_width (charge_of m) charges_after charges_held 0 (omega arith) (account_zone accounts) zone
 
-    pub credits-of-zone : (zone : ℕ)
+    pub credits_of_zone : (zone : ℕ)
         → sum_where (owner_count m) (owner_zone owners) (credited_network credits_after) zone ≡ sum_where (owner_count m) (owner_zone owners) (network_credit m) zone
     unfolding credit_of
-    credits-of-zone zone =
-        where_held (owner_count m) credit_width (credit_of m) credits_after credits-held 0 (omega arith) (owner_zone owners) zone
+    credits_of_zone zone =
+        where_held (owner_count m) credit_width (credit_of m) credits_after credits_held 0 (omega arith) (owner_zone owners) zone
 
     -- a column of charges, and of credits
-    pub charges-of-column : (column : ℕ) → column < charge_width
+    pub charges_of_column : (column : ℕ) → column < charge_width
         → sum_to (account_count m) (figure_at charge_width charges_after column) ≡ sum_to (account_count m) (charge_of m column)
-    charges-of-column = column_held (account_count m) charge_width (charge_of m) charges_after charges-held
+    charges_of_column = column_held (account_count m) charge_width (charge_of m) charges_after charges_held
 
-    pub credits-of-column : (column : ℕ) → column < credit_width
+    pub credits_of_column : (column : ℕ) → column < credit_width
         → sum_to (owner_count m) (figure_at credit_width credits_after column) ≡ sum_to (owner_count m) (credit_of m column)
-    credits-of-column = column_held (owner_count m) credit_width (credit_of m) credits_after credits-held
+    credits_of_column = column_held (owner_count m) credit_width (credit_of m) credits_after credits_held
 
     -- where a column of charges comes to what one of credits does, so do the words
-    pub columns-balance : (c d : ℕ) → c < charge_width → d < credit_width → sum_to (account_count m) (charge_of m c) ≡ sum_to (owner_count m) (credit_of m d)
+    pub columns_balance : (c d : ℕ) → c < charge_width → d < credit_width → sum_to (account_count m) (charge_of m c) ≡ sum_to (owner_count m) (credit_of m d)
         → sum_to (account_count m) (figure_at charge_width charges_after c) ≡ sum_to (owner_count m) (figure_at credit_width credits_after d)
-    columns-balance c d h k same = charges-of-column c h ∙ same ∙ sym (credits-of-column d k)
+    columns_balance c d h k same = charges_of_column c h ∙ same ∙ sym (credits_of_column d k)
 
     -- all of them
-    pub all-charges : sum_to (account_count m * charge_width) (at charges_after) ≡ sum_to charge_width (λ column. sum_to (account_count m) (charge_of m column))
-    all-charges = sum_held (account_count m) charge_width (charge_of m) charges_after charges-held
+    pub all_charges_lem : sum_to (account_count m * charge_width) (at charges_after) ≡ sum_to charge_width (λ column. sum_to (account_count m) (charge_of m column))
+    all_charges_lem = sum_held (account_count m) charge_width (charge_of m) charges_after charges_held
 
-    pub all-credits : sum_to (owner_count m * credit_width) (at credits_after) ≡ sum_to credit_width (λ column. sum_to (owner_count m) (credit_of m column))
-    all-credits = sum_held (owner_count m) credit_width (credit_of m) credits_after credits-held
+    pub all_credits_lem : sum_to (owner_count m * credit_width) (at credits_after) ≡ sum_to credit_width (λ column. sum_to (owner_count m) (credit_of m column))
+    all_credits_lem = sum_held (owner_count m) credit_width (credit_of m) credits_after credits_held

@@ -57,26 +57,26 @@ module _ (m : Input) where
   -- none, "the network part of its accounts' use counts as non-zone use" and "Reservations delivered in such a zone stay zone use"; in
   -- zone 0 all is non-zone use
   pub record Parted (s a : ℕ) : Type 0 where
-    pub with-requirement : account_zone accounts a ≢ 0 → ¬ WithoutRequirement s (account_zone accounts a)
+    pub with_requirement : account_zone accounts a ≢ 0 → ¬ WithoutRequirement s (account_zone accounts a)
         → ((service_in m s).zone_part a ≡ account_use m a) × ((service_in m s).nonzone_part a ≡ 0)
-    pub without-requirement : account_zone accounts a ≢ 0 → WithoutRequirement s (account_zone accounts a)
+    pub without_requirement : account_zone accounts a ≢ 0 → WithoutRequirement s (account_zone accounts a)
         → ((service_in m s).zone_part a ≡ energy_use m a) × ((service_in m s).nonzone_part a ≡ network_use m a)
-    pub in-zone-0 : account_zone accounts a ≡ 0 → ((service_in m s).zone_part a ≡ 0) × ((service_in m s).nonzone_part a ≡ account_use m a)
+    pub in_zone_0 : account_zone accounts a ≡ 0 → ((service_in m s).zone_part a ≡ 0) × ((service_in m s).nonzone_part a ≡ account_use m a)
 
   -- "Network charge of an account: the sum of its month's contributions times the rate (its zone's, or the non-zone rate) .."
   pub record NetworkPaid (a : ℕ) : Type 0 where
-    pub in-a-zone : (z : ℕ) → z < zone_count m → account_zone accounts a ≡ zone_number zones z
+    pub in_a_zone : (z : ℕ) → z < zone_count m → account_zone accounts a ≡ zone_number zones z
         → network_charge m a ≡ month.charge_at_rate (contributions m a) (zone_rate zones z)
-    pub in-zone-0 : account_zone accounts a ≡ 0 → network_charge m a ≡ month.charge_at_rate (contributions m a) m.nonzone
+    pub in_zone_0 : account_zone accounts a ≡ 0 → network_charge m a ≡ month.charge_at_rate (contributions m a) m.nonzone
 
   -- "The zone side is divided among that zone's accounts by use. The non-zone sides of all zones make one pot", divided among zone 0's
   -- accounts and those of zones without requirement: an account has its share of one or of the other
   pub record ServicePaid (s a : ℕ) : Type 0 where
-    pub with-requirement : (z : ℕ) → z < zone_count m → account_zone accounts a ≡ zone_number zones z → ¬ WithoutRequirement s (zone_number zones z)
+    pub with_requirement : (z : ℕ) → z < zone_count m → account_zone accounts a ≡ zone_number zones z → ¬ WithoutRequirement s (zone_number zones z)
         → service_charge m s a ≡ among_accounts (zone_side (service_in m s) z) (zone_number zones z) a
-    pub without-requirement : (z : ℕ) → z < zone_count m → account_zone accounts a ≡ zone_number zones z → WithoutRequirement s (zone_number zones z)
+    pub without_requirement : (z : ℕ) → z < zone_count m → account_zone accounts a ≡ zone_number zones z → WithoutRequirement s (zone_number zones z)
         → service_charge m s a ≡ among_sharers s (nonzone_pot (service_in m s)) a
-    pub in-zone-0 : account_zone accounts a ≡ 0 → service_charge m s a ≡ among_sharers s (nonzone_pot (service_in m s)) a
+    pub in_zone_0 : account_zone accounts a ≡ 0 → service_charge m s a ≡ among_sharers s (nonzone_pot (service_in m s)) a
 
   -- for firm service an account pays by its own rows, as lists of their own: what its daily rows cost, week by week, and what each other
   -- row costs
@@ -87,22 +87,22 @@ module _ (m : Input) where
 
   -- all that account a pays
   pub record Paid (a : ℕ) : Type 0 where
-    pub for-network : NetworkPaid a
-    pub for-service : (s : ℕ) → IsService s → ServicePaid s a
-    pub for-firm : FirmPaid a
+    pub for_network : NetworkPaid a
+    pub for_service : (s : ℕ) → IsService s → ServicePaid s a
+    pub for_firm_lem : FirmPaid a
 
   -- "a zone's charges are divided among its owners by requirement. The charges of zone 0 are divided among all owners by requirement",
   -- "The owner is credited with the sum" of its units' months, and the firm charges "make one pot, divided among all owners by
   -- requirement": all that owner o has
   pub record Credited (o : ℕ) : Type 0 where
-    pub of-its-zone : (z : ℕ) → z < zone_count m → owner_zone owners o ≡ zone_number zones z
+    pub of_its_zone : (z : ℕ) → z < zone_count m → owner_zone owners o ≡ zone_number zones z
         → network_credit m o ≡ among_owners (charges_in m (zone_number zones z)) (zone_number zones z) o
-    pub of-zone-0 : nonzone_credit m o ≡ at (shares (charges_in m 0) (requirements m)) o
-    pub of-its-units : (s : ℕ)
+    pub of_zone_0 : nonzone_credit m o ≡ at (shares (charges_in m 0) (requirements m)) o
+    pub of_its_units : (s : ℕ)
         → service_credit m s o
         ≡ sum_where (unit_count m) (unit_owner units)
         (λ u.
         when (eqb (unit_service units u) s)
         (unit_requirement units u * m.month / 12 - unit_requirement units u * (m.month - 1) / 12 + unit_reserve units u))
         (owner_number owners o)
-    pub of-firm : firm_credit m o ≡ at (shares (sum_to (account_count m) (firm_charge m)) (requirements m)) o
+    pub of_firm : firm_credit m o ≡ at (shares (sum_to (account_count m) (firm_charge m)) (requirements m)) o

@@ -21,21 +21,21 @@ use Rattle.settlement.specs.Accepted.{GoodInput, ZonesFine, NetworkFine, Service
 module _ (m : Input) (lent_charges lent_credits : ℕ) where
   pub data Refused (r : Answer) : Type 0 where
     -- an input that the tables' rules refuse
-    by-tables : judgement.Refused (head_of m) m.tables lent_charges lent_credits r → Refused r
+    by_tables : judgement.Refused (head_of m) m.tables lent_charges lent_credits r → Refused r
     -- "network zones 0..k-1", "each BIG, then BASE"
-    at-zone : GoodInput m lent_charges lent_credits → (z n : ℕ) → z < zone_count m → ZonesFine m z
+    at_zone : GoodInput m lent_charges lent_credits → (z n : ℕ) → z < zone_count m → ZonesFine m z
         → SizeRefused (charges_in m (zone_number m.tables.zones z)) (total (weights_in (network_pots m) z)) n → r ≡ refusal n DIVISIONS z → Refused r
     -- "network non-zone k"
     at_nonzone : GoodInput m lent_charges lent_credits → (n : ℕ) → ZonesFine m (zone_count m)
         → SizeRefused (charges_in m 0) (total (requirements m)) n → r ≡ refusal n DIVISIONS (zone_count m) → Refused r
     -- at a division of black start, whose places start at k+1
-    in-black-start : GoodInput m lent_charges lent_credits → NetworkFine m
+    in_black_start : GoodInput m lent_charges lent_credits → NetworkFine m
         → service.RefusedAt (service_in m black_start) (black_start_place (zone_count m)) r → Refused r
     -- at a division of reactive, whose places start at 3k+2
-    in-reactive : GoodInput m lent_charges lent_credits → NetworkFine m → service.ServiceFine (service_in m black_start)
+    in_reactive : GoodInput m lent_charges lent_credits → NetworkFine m → service.ServiceFine (service_in m black_start)
         → service.RefusedAt (service_in m reactive) (reactive_place (zone_count m)) r → Refused r
     -- "the division comes last, at 5k+3"
-    at-firm : GoodInput m lent_charges lent_credits → (n : ℕ) → NetworkFine m → ServicesFine m
+    at_firm : GoodInput m lent_charges lent_credits → (n : ℕ) → NetworkFine m → ServicesFine m
         → SizeRefused (firm_pot m) (total (requirements m)) n → r ≡ refusal n DIVISIONS (5 * zone_count m + 3) → Refused r
 
 -- "black start zone i split k+1+2i and share k+2+2i, its non-zone 3k+1, reactive split 3k+2+2i, share 3k+3+2i, non-zone 5k+2"

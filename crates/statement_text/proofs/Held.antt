@@ -52,16 +52,16 @@ module _ (text : List ℕ) (lent : Tables) (full : (table : Table) → Full lent
     rows_there table = (read.table_read table).there
 
     -- .. and are the month that the text holds
-    same-words : (table : Table) → words_of (tables_read held after) table ≡ words_of (month_held read.contents).tables table
-    same-words table =
+    same_words : (table : Table) → words_of (tables_read held after) table ≡ words_of (month_held read.contents).tables table
+    same_words table =
         words_by (words_read held after) table
         ∙ (read.table_read table).front_is
         ∙ sym (words_by (λ table. (nth read.contents.tables (place_of table)).words) table)
 
-    same-month : month_of held.head (tables_read held after) ≡ month_held read.contents
-    same-month = ap₂ month_of (ap (λ (h : Reading). h.head) read.answers) (same_tables (tables_read held after) (month_held read.contents).tables same-words)
+    same_month : month_of held.head (tables_read held after) ≡ month_held read.contents
+    same_month = ap₂ month_of (ap (λ (h : Reading). h.head) read.answers) (same_tables (tables_read held after) (month_held read.contents).tables same_words)
 
-    pub text-month : settled_text (month_of held.head (tables_read held after)) ≡ found_text (reading month_form text)
-    text-month =
-        ap settled_text same-month
+    pub text_month : settled_text (month_of held.head (tables_read held after)) ≡ found_text (reading month_form text)
+    text_month =
+        ap settled_text same_month
         ∙ sym (ap (λ l. found_text (reading month_form l)) read.written ∙ ap found_text (written_then_read read.contents read.within))

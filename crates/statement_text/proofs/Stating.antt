@@ -22,7 +22,7 @@ use Rattle.settlement.proofs.Accepting.{answer_accepted}
 use Rattle.statement_lines.specs.Lines.{refuse_line, month_lines}
 use Rattle.statement_lines.specs.Calls.{Figured}
 use Rattle.statement_text.specs.Statement.{statement_lines, settled_answer, month_held, settled_text, found_text, most_bytes, statement_of}
-use Rattle.statement_text.proofs.Totals.{answer_is, accounts-figured, owners-figured, settled_lines}
+use Rattle.statement_text.proofs.Totals.{answer_is, accounts_figured, owners_figured, settled_lines}
 
 pub settled_accepted : (m : Input) → (settled_answer m).number ≡ 0 → settled_text m ≡ statement_lines m
 unfolding settled_text
@@ -71,11 +71,11 @@ module _ {m : Input} {charges charges_after credits credits_after : List ℕ} {r
 
   -- .. where the words of its accounts and owners are at hand
   module _ (z : r.number ≡ 0) {accounts owners : List ℕ} (a : accounts ≡ m.tables.accounts) (o : owners ≡ m.tables.owners) where
-    pub month-figured : Figured Accounts charge_width accounts charges_after × Figured Owners credit_width owners credits_after
-    month-figured = (rw a (accounts-figured settled e f z), rw o (owners-figured settled e f z))
+    pub month_figured : Figured Accounts charge_width accounts charges_after × Figured Owners credit_width owners credits_after
+    month_figured = (rw a (accounts_figured settled e f z), rw o (owners_figured settled e f z))
 
-    pub month-stated : month_lines accounts charges_after owners credits_after ≡ settled_text m
-    month-stated =
+    pub month_stated : month_lines accounts charges_after owners credits_after ≡ settled_text m
+    month_stated =
         ap₂ (λ x y. month_lines x charges_after y credits_after) a o ∙ settled_lines settled e f z ∙ sym (settled_accepted m (sym number_is ∙ z))
 
 -- an accepted month is accepted with outputs lent at full size

@@ -65,7 +65,7 @@ module _ {m : Input} {lent_charges lent_credits : ℕ} (all : Accepted m lent_ch
   service_total s i =
       le_trans
       (le_of_eq
-      (promises.service_charges_are_credits all s i ∙ balance.owners-have-credits m lent_charges lent_credits all.good s))
+      (promises.service_charges_are_credits all s i ∙ balance.owners_have_credits m lent_charges lent_credits all.good s))
       (sum_at_most (unit_count m) (limit Units) most_credit (credit_in m s) (few Units)
       (λ u b. when_within (eqb (unit_service m.tables.units u) s) (unit_credit m u) most_credit (unit_credit_within m lent_charges lent_credits all.good u b)))
 
@@ -100,22 +100,22 @@ module _ {m : Input} {charges charges_after credits credits_after : List ℕ} {r
     all : Accepted m (length charges) (length credits)
     all = written.all settled z
 
-    pub accounts-figured : Figured Accounts charge_width m.tables.accounts charges_after
+    pub accounts_figured : Figured Accounts charge_width m.tables.accounts charges_after
     unfolding all_charges
-    accounts-figured =
+    accounts_figured =
         record {
           few = few all Accounts;
-          figures_there = (written.charges-held settled z).long;
-          fits = lt_of_le_of_lt (le_of_eq (written.all-charges settled z)) (charges_small all);
+          figures_there = (written.charges_held settled z).long;
+          fits = lt_of_le_of_lt (le_of_eq (written.all_charges_lem settled z)) (charges_small all);
         }
 
-    pub owners-figured : Figured Owners credit_width m.tables.owners credits_after
+    pub owners_figured : Figured Owners credit_width m.tables.owners credits_after
     unfolding all_credits
-    owners-figured =
+    owners_figured =
         record {
           few = few all Owners;
-          figures_there = (written.credits-held settled z).long;
-          fits = lt_of_le_of_lt (le_of_eq (written.all-credits settled z ∙ sym (totals_equal all))) (charges_small all);
+          figures_there = (written.credits_held settled z).long;
+          fits = lt_of_le_of_lt (le_of_eq (written.all_credits_lem settled z ∙ sym (totals_equal all))) (charges_small all);
         }
 
     pub settled_lines : month_lines m.tables.accounts charges_after m.tables.owners credits_after ≡ statement_lines m
@@ -123,8 +123,8 @@ module _ {m : Input} {charges charges_after credits credits_after : List ℕ} {r
     settled_lines =
         ap₂ (λ x y. lines_text (account_count m) x (owner_count m) y (bytes "total")
         (sum_to (account_count m * charge_width) (at charges_after) ∷ sum_to (owner_count m * credit_width) (at credits_after) ∷ []))
-        (rows_same (account_count m) charge_width (account_number m.tables.accounts) (figure_at charge_width charges_after) (charge_of m) (written.charge-word settled z))
-        (rows_same (owner_count m) credit_width (owner_number m.tables.owners) (figure_at credit_width credits_after) (credit_of m) (written.credit-word settled z))
+        (rows_same (account_count m) charge_width (account_number m.tables.accounts) (figure_at charge_width charges_after) (charge_of m) (written.charge_word settled z))
+        (rows_same (owner_count m) credit_width (owner_number m.tables.owners) (figure_at credit_width credits_after) (credit_of m) (written.credit_word settled z))
         ∙ ap₂ (λ x y. lines_text (account_count m) (rows_with (account_count m) charge_width (account_number m.tables.accounts) (charge_of m))
         (owner_count m) (rows_with (owner_count m) credit_width (owner_number m.tables.owners) (credit_of m)) (bytes "total") (x ∷ y ∷ []))
-        (written.all-charges settled z) (written.all-credits settled z)
+        (written.all_charges_lem settled z) (written.all_credits_lem settled z)

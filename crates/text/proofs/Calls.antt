@@ -69,8 +69,8 @@ module _ {M : Type 1} {𝓤 : Ura M} (𝓛 : Logic 𝓤) (mem : Memory → SProp
     abbrev pub to_made : ReaderAt.Ghost
     to_made = (((κ, tt), (q, tt), tt, (s, (i, tt)), (machine s ∷ [], (vint w64 i ∷ [], tt))), tt)
 
-    pub said-made : (r : Reader) → ent 𝓤 (ensured 𝓛 reader_at.ended (reader_at.clauses 𝓛 mem run) (κ, tt) (s, (i, tt)) tt r) (fact 𝓤 (Made s i r))
-    said-made r = ex_e 𝓤 _ (λ ws. snd∗ 𝓤 (sem 𝓛 (lasts reader_at.ended (κ, tt) (s, (i, tt)) ws)) (fact 𝓤 (Made s i r)))
+    pub said_made : (r : Reader) → ent 𝓤 (ensured 𝓛 reader_at.ended (reader_at.clauses 𝓛 mem run) (κ, tt) (s, (i, tt)) tt r) (fact 𝓤 (Made s i r))
+    said_made r = ex_e 𝓤 _ (λ ws. snd∗ 𝓤 (sem 𝓛 (lasts reader_at.ended (κ, tt) (s, (i, tt)) ws)) (fact 𝓤 (Made s i r)))
 
   -- the reader r, whose machine value is u, steps over a line with the key x and w fields
   module _ (κ κ' : Lft) (q q' : Share) (x : Bor (List ℕ)) (w : ℕ) (r : Reader) (u : Val) where
@@ -80,8 +80,8 @@ module _ {M : Type 1} {𝓤 : Ura M} (𝓛 : Logic 𝓤) (mem : Memory → SProp
     abbrev pub to_step : Step.Ghost
     to_step = (((κ, (κ', tt)), (q, (q', tt)), tt, (r, (x, (w, tt))), passed), tt)
 
-    pub said-step : (t : Reader) → ent 𝓤 (ensured 𝓛 step.ended (step.clauses 𝓛 mem run) (κ, (κ', tt)) (r, (x, (w, tt))) tt t) (fact 𝓤 (Stepped r x.now w t))
-    said-step t = ex_e 𝓤 _ (λ ws. snd∗ 𝓤 (sem 𝓛 (lasts step.ended (κ, (κ', tt)) (r, (x, (w, tt))) ws)) (fact 𝓤 (Stepped r x.now w t)))
+    pub said_step : (t : Reader) → ent 𝓤 (ensured 𝓛 step.ended (step.clauses 𝓛 mem run) (κ, (κ', tt)) (r, (x, (w, tt))) tt t) (fact 𝓤 (Stepped r x.now w t))
+    said_step t = ex_e 𝓤 _ (λ ws. snd∗ 𝓤 (sem 𝓛 (lasts step.ended (κ, (κ', tt)) (r, (x, (w, tt))) ws)) (fact 𝓤 (Stepped r x.now w t)))
 
 module _ {M : Type 1} {𝓤 : Ura M} (𝓛 : Logic 𝓤) where
   pub typed : (κ : Lft) (r : Reader) (u : Val) → Is (B κ) r (u ∷ []) → Holds (has_ty (T'.mir erased) u) × WT u
@@ -92,21 +92,21 @@ module _ {M : Type 1} {𝓤 : Ura M} (𝓛 : Logic 𝓤) where
       abbrev OwnText : Fml
       OwnText = (ShrSlice (named 0) κ u8).own_val s (machine s ∷ [])
 
-      asked-made : ent 𝓤 (on_entry 𝓛 reader_at.signature (κ, tt) (q, tt) (s, (i, tt)) (machine s ∷ [], (vint w64 i ∷ [], tt))) ((ReaderAt 𝓛 mem run).pre (to_made 𝓛 mem run κ q s i))
-      asked-made = qed 𝓛 ((‵ (flft κ q) ⊛ ‵ ftrue) ∷ ‵ (owns (ShrSlice (named 0) κ u8 ∷ usize ∷ []) (s, (i, tt)) (machine s ∷ [], (vint w64 i ∷ [], tt))) ∷ []) ∵ join ! $ frame ! $ done !
+      asked_made : ent 𝓤 (on_entry 𝓛 reader_at.signature (κ, tt) (q, tt) (s, (i, tt)) (machine s ∷ [], (vint w64 i ∷ [], tt))) ((ReaderAt 𝓛 mem run).pre (to_made 𝓛 mem run κ q s i))
+      asked_made = qed 𝓛 ((‵ (flft κ q) ⊛ ‵ ftrue) ∷ ‵ (owns (ShrSlice (named 0) κ u8 ∷ usize ∷ []) (s, (i, tt)) (machine s ∷ [], (vint w64 i ∷ [], tt))) ∷ []) ∵ join ! $ frame ! $ done !
 
-      pub goes-made : ent 𝓤 (sep 𝓤 (sem 𝓛 OwnText) (sem 𝓛 (flft κ q))) (sep 𝓤 ((ReaderAt 𝓛 mem run).pre (to_made 𝓛 mem run κ q s i)) (sem 𝓛 OwnText))
-      goes-made =
+      pub goes_made : ent 𝓤 (sep 𝓤 (sem 𝓛 OwnText) (sem 𝓛 (flft κ q))) (sep 𝓤 ((ReaderAt 𝓛 mem run).pre (to_made 𝓛 mem run κ q s i)) (sem 𝓛 OwnText))
+      goes_made =
           qed 𝓛 (‵ OwnText ∷ ‵ (flft κ q) ∷ []) ∵ use1 𝓛 (‵ OwnText ⊛ ‵ OwnText) ((shr_slice_copy 𝓛 (named 0) κ u8).twice s (machine s ∷ [])) $ split ! $
           nothing ! $ owned ! usize (Is usize) (uint__makes 𝓛 w64) i _ (refl, i-fits) $ fjoin ! $ move ! (1 ∷ 0 ∷ []) $ fjoin ! $ nothing ! $ move ! (3 ∷ 0 ∷ []) $ join ! $
-          use2 𝓛 (raw ((ReaderAt 𝓛 mem run).pre (to_made 𝓛 mem run κ q s i))) asked-made $ frame ! $ done !
+          use2 𝓛 (raw ((ReaderAt 𝓛 mem run).pre (to_made 𝓛 mem run κ q s i))) asked_made $ frame ! $ done !
 
     module _ (κ κ' : Lft) (q q' : Share) (x : Bor (List ℕ)) (w : ℕ) (w__fits : w < 2 ^ 64) (r : Reader) (u : Val) where
       abbrev OwnKey : Fml
       OwnKey = (ShrSlice (named 1) κ' u8).own_val x (machine x ∷ [])
 
-      asked-step : ent 𝓤 (on_entry 𝓛 step.signature (κ, (κ', tt)) (q, (q', tt)) (r, (x, (w, tt))) (u ∷ [], (machine x ∷ [], (vint w64 w ∷ [], tt)))) ((Step 𝓛 mem run).pre (to_step 𝓛 mem run κ κ' q q' x w r u))
-      asked-step = qed 𝓛 ((‵ (flft κ q) ⊛ ‵ (flft κ' q') ⊛ ‵ ftrue) ∷ ‵ (owns (B κ ∷ ShrSlice (named 1) κ' u8 ∷ usize ∷ []) (r, (x, (w, tt))) (u ∷ [], (machine x ∷ [], (vint w64 w ∷ [], tt)))) ∷ []) ∵ join ! $ frame ! $ done !
+      asked_step : ent 𝓤 (on_entry 𝓛 step.signature (κ, (κ', tt)) (q, (q', tt)) (r, (x, (w, tt))) (u ∷ [], (machine x ∷ [], (vint w64 w ∷ [], tt)))) ((Step 𝓛 mem run).pre (to_step 𝓛 mem run κ κ' q q' x w r u))
+      asked_step = qed 𝓛 ((‵ (flft κ q) ⊛ ‵ (flft κ' q') ⊛ ‵ ftrue) ∷ ‵ (owns (B κ ∷ ShrSlice (named 1) κ' u8 ∷ usize ∷ []) (r, (x, (w, tt))) (u ∷ [], (machine x ∷ [], (vint w64 w ∷ [], tt)))) ∷ []) ∵ join ! $ frame ! $ done !
 
       pub goes_step : ent 𝓤 (⋆ 𝓛 (‵ ((B κ).own_val r (u ∷ [])) ∷ ‵ OwnKey ∷ (‵ (flft κ q) ⊛ ‵ (flft κ' q') ⊛ ‵ ftrue) ∷ [])) (sep 𝓤 ((Step 𝓛 mem run).pre (to_step 𝓛 mem run κ κ' q q' x w r u)) (sem 𝓛 OwnKey))
       goes_step =
@@ -114,4 +114,4 @@ module _ {M : Type 1} {𝓤 : Ura M} (𝓛 : Logic 𝓤) where
           move ! (1 ∷ []) $ use1 𝓛 (‵ OwnKey ⊛ ‵ OwnKey) ((shr_slice_copy 𝓛 (named 1) κ' u8).twice x (machine x ∷ [])) $ split ! $
           nothing ! $ owned ! usize (Is usize) (uint__makes 𝓛 w64) w _ (refl, w__fits) $ fjoin ! $ move ! (1 ∷ 0 ∷ []) $ fjoin ! $ move ! (2 ∷ 0 ∷ []) $ fjoin ! $
           -- [what `step` takes; what the key owns; the tokens]
-          move ! (2 ∷ 0 ∷ []) $ use2 𝓛 (raw ((Step 𝓛 mem run).pre (to_step 𝓛 mem run κ κ' q q' x w r u))) asked-step $ frame ! $ done !
+          move ! (2 ∷ 0 ∷ []) $ use2 𝓛 (raw ((Step 𝓛 mem run).pre (to_step 𝓛 mem run κ κ' q q' x w r u))) asked_step $ frame ! $ done !

@@ -191,12 +191,12 @@ module _ (s : List ℕ) (o : Found (List ℕ)) (i left : ℕ) (so_far : Partly o
     opens : fields left (drop i s) ≡ fields (suc (left - 1)) (drop i s)
     opens = let e : left ≡ suc (left - 1) = omega arith in ap (λ k. fields k (drop i s)) e
 
-    pub fields-missing : r.next ≡ 0 → LineAt s o 0
-    fields-missing z =
+    pub fields_missing : r.next ≡ 0 → LineAt s o 0
+    fields_missing z =
         line_missing s o (so_far.whole ∙ ap (with_front so_far.front) (opens ∙ fields_stop (left - 1) (drop i s) (a.unfit z).0))
 
-    pub fields-next : r.next ≢ 0 → Partly o (fields (left - 1) (drop r.next s))
-    fields-next d =
+    pub fields_next : r.next ≢ 0 → Partly o (fields (left - 1) (drop r.next s))
+    fields_next d =
         record {
           front = so_far.front ++ (r.value ∷ []);
           whole =

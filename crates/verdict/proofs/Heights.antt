@@ -109,8 +109,8 @@ module _ (n w : ℕ) (a x : ℕ → ℕ) (positive : 0 < w) (equal : sum_to n a 
         absurd (omega arith))
         (lt_or_le (x k) (a k + w))
 
-    not-high : (k : ℕ) → k < n → a k < x k + w
-    not-high k b =
+    not_high : (k : ℕ) → k < n → a k < x k + w
+    not_high k b =
         ⊎_elim
         (λ (l : a k < x k + w). l)
         (λ (g : x k + w ≤ a k).
@@ -119,8 +119,8 @@ module _ (n w : ℕ) (a x : ℕ → ℕ) (positive : 0 < w) (equal : sum_to n a 
         absurd (omega arith))
         (lt_or_le (a k) (x k + w))
 
-    near-level : (i j : ℕ) → i < n → j < n → a i + x j ≤ a j + x i + w
-    near-level i j bi bj = omega (arith, near i j bi bj, not_low i bi, not-high i bi, not_low j bj, not-high j bj)
+    near_level : (i j : ℕ) → i < n → j < n → a i + x j ≤ a j + x i + w
+    near_level i j bi bj = omega (arith, near i j bi bj, not_low i bi, not_high i bi, not_low j bj, not_high j bj)
 
 level_near : (w ai aj xi xj : ℕ) → ai + xj ≤ aj + xi + w → over w ai xi ≤ over w aj xj + w
 level_near w ai aj xi xj h = omega arith
@@ -153,7 +153,7 @@ module _ (pot : ℕ) (weights amounts : List ℕ) (size : FineSize pot (total we
       (every (length weights) (λ i. every (length weights) (λ j.
       leb (total weights * at amounts i + pot * at weights j) (total weights * at amounts j + pot * at weights i + total weights))))
       (λ t.
-      every_from (length weights) _ (λ i bi. every_from (length weights) _ (λ j bj. le-leb _ _ (from-spread (leb-true _ _ t) i j bi bj))))
+      every_from (length weights) _ (λ i bi. every_from (length weights) _ (λ j bj. le-leb _ _ (from_spread (leb-true _ _ t) i j bi bj))))
       (λ t.
       le-leb _ _
       (all_spread (2 * total weights) (length weights) (total weights) (height pot weights (total weights) amounts)
@@ -164,18 +164,18 @@ module _ (pot : ℕ) (weights amounts : List ℕ) (size : FineSize pot (total we
       let h = level_near (total weights) (total weights * at amounts i) (total weights * at amounts j) (pot * at weights i) (pot * at weights j) far in
       omega (arith, over_is i, over_is j, h))))
     where
-      from-spread : most (length weights) (height pot weights (total weights) amounts)
+      from_spread : most (length weights) (height pot weights (total weights) amounts)
           ≤ least (2 * total weights) (length weights) (height pot weights (total weights) amounts) + total weights
           → (i j : ℕ) → i < length weights → j < length weights
           → total weights * at amounts i + pot * at weights j ≤ total weights * at amounts j + pot * at weights i + total weights
-      from-spread h i j bi bj =
+      from_spread h i j bi bj =
           ⊎_elim
           (λ (z : total weights ≡ 0).
           let none : pot * at weights j ≡ 0 * at weights j = ap (λ p. p * at weights j) (size.has_base z) in
           let no-sum : total weights * at amounts i ≡ 0 * at amounts i = ap (λ w. w * at amounts i) z in
           omega arith)
           (λ (d : total weights ≢ 0).
-          near-level (length weights) (total weights) (λ k. total weights * at amounts k) (λ k. pot * at weights k)
+          near_level (length weights) (total weights) (λ k. total weights * at amounts k) (λ k. pot * at weights k)
           (omega (arith, d)) equal_sums
           (λ k l bk bl.
           let n : height pot weights (total weights) amounts k ≤ height pot weights (total weights) amounts l + total weights =

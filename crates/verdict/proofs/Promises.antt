@@ -55,15 +55,15 @@ module _ (pot : ℕ) (weights amounts : List ℕ) (few : length weights ≤ most
   where
     -- for weights that add up to more than zero it says yes exactly when the amounts add up to the pot and no list of whole
     -- numbers of the same length with that sum lies closer to the exact shares ..
-    pub yes-means-closest : 0 < total weights
+    pub yes_means_closest : 0 < total weights
         → ((meaning (verdict pot weights amounts)).says ≡ yes) ↔ ((total amounts ≡ pot) × Closest pot weights amounts)
-    yes-means-closest some =
+    yes_means_closest some =
         passing.fine_yes pot weights amounts (passing.within_limits pot weights amounts few alike pot_fits weights_fit (λ none. absurd (omega arith)))
 
     -- .. and no exactly when they do not
-    pub no-means-not-closest : 0 < total weights
+    pub no_means_not_closest : 0 < total weights
         → ((meaning (verdict pot weights amounts)).says ≡ no) ↔ (¬ ((total amounts ≡ pot) × Closest pot weights amounts))
-    no-means-not-closest some =
+    no_means_not_closest some =
         passing.fine_no pot weights amounts (passing.within_limits pot weights amounts few alike pot_fits weights_fit (λ none. absurd (omega arith)))
 
     -- it says one or the other, also where pot and weights are zero

@@ -43,13 +43,13 @@ module _ (pot : ℕ) (weights amounts : List ℕ) where
   pub its_number : (meaning (verdict pot weights amounts)).number ≡ check_refusal pot weights amounts
   its_number =
       ⊎_elim
-      (λ (e : check_refusal pot weights amounts ≡ 0). ap (λ v. (meaning v).number) (said e) ∙ neither-refuses (passes pot weights amounts) ∙ sym e)
+      (λ (e : check_refusal pot weights amounts ≡ 0). ap (λ v. (meaning v).number) (said e) ∙ neither_refuses (passes pot weights amounts) ∙ sym e)
       (λ (d : check_refusal pot weights amounts ≢ 0). ap (λ v. (meaning v).number) (sym (refused (check_refusal pot weights amounts) refl d)))
       (zero_or_not (check_refusal pot weights amounts))
     where
-      neither-refuses : (t : Bool) → (meaning (cond t Yes No)).number ≡ 0
-      neither-refuses true = refl
-      neither-refuses false = refl
+      neither_refuses : (t : Bool) → (meaning (cond t Yes No)).number ≡ 0
+      neither_refuses true = refl
+      neither_refuses false = refl
 
   pub wrong_sum : (total amounts ≡ pot → ⊥) → passes pot weights amounts ≡ false
   unfolding passes

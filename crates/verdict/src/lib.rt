@@ -19,7 +19,7 @@ pub enum Verdict {
 
 // Says whether the amounts are a closest division of the pot by the weights. Refuses with COUNT (more than 64 weights, or not
 // as many amounts as weights), BIG and BASE, in this order. Amounts may be of any size.
-// What yes means, for weights that add up to more than zero, is the theorem `yes-means-closest` of `proofs/Promises.antt`: they add
+// What yes means, for weights that add up to more than zero, is the theorem `yes_means_closest` of `proofs/Promises.antt`: they add
 // up to the pot, and no list of as many whole numbers with that sum lies closer to the exact shares.
 pub fn check(pot: u64, weights: &[u64], amounts: &[u64]) -> Verdict
     ensures { result ≡ verdict pot weights.now amounts.now }

@@ -4,7 +4,7 @@ use mathlib.Core.Path.{sym}
 use native.Mathlib.Nat.{le_of_eq, le_trans}
 use borrow.Author.Rules.{rules}
 use Rattle.cents.proofs.Bounds.{given_within}
-use Rattle.cents.proofs.Dealing.{placed-long, ready, dealt-out}
+use Rattle.cents.proofs.Dealing.{placed_long, ready, dealt_out}
 use Rattle.cents.proofs.deal.Statement.{statement}
 use Rattle.cents.proofs.deal.Tie as tie
 
@@ -27,7 +27,7 @@ array-share-prefix-keys c = search rules
 slice-aggregate-hand-out : tie.Need-slice-aggregate-hand-out
 slice-aggregate-hand-out c =
     let start = c.before.before.before.before.before.before.before.before.before in
-    sym (placed-long _ _ _ _ _ _ _ _ start.requires.0 start.requires.1.0 start.requires.1.1 start.requires.1.0 c.before.before.before.before.cut_down.ensures)
+    sym (placed_long _ _ _ _ _ _ _ _ start.requires.0 start.requires.1.0 start.requires.1.1 start.requires.1.0 c.before.before.before.before.cut_down.ensures)
 
 hand-out-requires : tie.Need-hand-out-requires
 hand-out-requires c κs =
@@ -40,7 +40,7 @@ same_length c = search rules
 returns : tie.Need-returns
 returns c =
     let start = c.before.before.before.before.before.before.before.before.before.before.before.before.before in
-    dealt-out _ _ _ _ _ _ _ _ start.requires.0 start.requires.1.0 start.requires.1.1 start.requires.1.0
+    dealt_out _ _ _ _ _ _ _ _ start.requires.0 start.requires.1.0 start.requires.1.1 start.requires.1.0
     c.before.before.before.before.before.before.before.before.cut_down.ensures
     c.before.before.hand-out.new.1.1.0
     c.before.before.hand-out.ensures

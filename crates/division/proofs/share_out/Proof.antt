@@ -11,7 +11,7 @@ use Rattle.lists.proofs.Sums.{bit_le}
 use Rattle.cents.proofs.Bits.{bit_of}
 use Rattle.division.specs.Limits.{size_refusal}
 use Rattle.division.specs.Refused.{FineSize}
-use Rattle.division.proofs.Handed.{sized, base_of, shared-out}
+use Rattle.division.proofs.Handed.{sized, base_of, shared_out}
 use Rattle.division.proofs.share_out.Statement.{statement}
 use Rattle.division.proofs.share_out.Tie as tie
 
@@ -42,7 +42,7 @@ same_length c = search rules
 returns : tie.Need-returns
 returns c =
     let start = c.before.before.before.before.before.before in
-    shared-out start.args.pot start.args.weights.now _ (size_of start) (whole_of start) start.requires.1.0 start.args.out.now _
+    shared_out start.args.pot start.args.weights.now _ (size_of start) (whole_of start) start.requires.1.0 start.args.out.now _
     c.before.before.deal.ensures
 
 pub share-out-spec : {M : Type 1} → statement M

@@ -6,7 +6,7 @@ use Prim.Native.Nat.{ℕ}
 use Rattle.tables.specs.Shape.{Tables, tables_of}
 use Rattle.fileread.specs.Calls.{read_room}
 use Rattle.fileread.proofs.Rooms.{rooms_lent}
-use Rattle.fileread.proofs.Parts.{read_no_room, read-refused, read-ready, read-filled}
+use Rattle.fileread.proofs.Parts.{read_no_room, read_refused, read_ready, read_filled}
 use borrow.Author.Rules.{rules}
 use Rattle.fileread.proofs.read.Statement.{statement}
 use Rattle.fileread.proofs.read.Tie as tie
@@ -50,14 +50,14 @@ returns-2 : tie.Need-returns-2
 returns-2 c =
     let j = c.before.before.before.before.before in
     let r = looked j in
-    read-refused (text r) (lent r) r.judge-room.result (room-is r) j.before.if1.false j.judge-text.result.held j.judge-text.result.body
+    read_refused (text r) (lent r) r.judge-room.result (room-is r) j.before.if1.false j.judge-text.result.held j.judge-text.result.body
     j.judge-text.ensures c.before.if2.true c.nothing-read2.result c.nothing-read2.ensures
 
 fill-requires : tie.Need-fill-requires
 fill-requires c κs =
     let j = c.before.before.before.before.before.before.before.before.before.before.before.before in
     let r = looked j in
-    read-ready (text r) (lent r) r.judge-room.result (room-is r) j.before.if1.false j.judge-text.result.held j.judge-text.result.body
+    read_ready (text r) (lent r) r.judge-room.result (room-is r) j.before.if1.false j.judge-text.result.held j.judge-text.result.body
     j.judge-text.ensures c.before.before.before.before.before.before.before.before.if2.false j.judge-text.result.held.counts refl
 
 same_length : tie.Need-same-length
@@ -86,7 +86,7 @@ returns-3 c =
     let filled = c.before.before.before.before.before.before.before.before.before.before.before.before.before.before.fill.new in
     let j = c.before.before.before.before.before.before.before.before.before.before.before.before.before.before.before.before.before.before.before.before.before.before.before.before.before.before.before in
     let r = looked j in
-    read-filled (text r) (lent r) r.judge-room.result (room-is r) j.before.if1.false j.judge-text.result.held j.judge-text.result.body
+    read_filled (text r) (lent r) r.judge-room.result (room-is r) j.before.if1.false j.judge-text.result.held j.judge-text.result.body
     j.judge-text.ensures c.before.before.before.before.before.before.before.before.before.before.before.before.before.before.before.before.before.before.before.before.before.before.before.if2.false
     (tables_of filled.1.1.1.0 filled.1.1.1.1.0 filled.1.1.1.1.1.0 filled.1.1.1.1.1.1.0 filled.1.1.1.1.1.1.1.0 filled.1.1.1.1.1.1.1.1.0 filled.1.1.1.1.1.1.1.1.1.0)
     c.before.before.before.before.before.before.before.before.before.before.before.before.before.before.fill.ensures

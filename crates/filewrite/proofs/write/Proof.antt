@@ -2,7 +2,7 @@
 -- Assumes nothing.
 use mathlib.Core.List.{map}
 use Rattle.tables.specs.Shape.{Tables, tables_from}
-use Rattle.filewrite.proofs.Parts.{write_counts, write-short, write-fits, write-fine}
+use Rattle.filewrite.proofs.Parts.{write_counts, write_short, write_fits, write_fine}
 use borrow.Author.Rules.{rules}
 use Rattle.filewrite.proofs.write.Statement.{statement}
 use Rattle.filewrite.proofs.write.Tie as tie
@@ -32,14 +32,14 @@ returns-2 : tie.Need-returns-2
 returns-2 c =
     let e = c.before.before.before.before.before.before.before in
     let counts = c.before.before.before.before.before.count-tables in
-    write-short e.args.head (written e) e.args.out.now counts.result counts.ensures c.before.before.before.if1.false c.before.before.text-size.result c.before.before.text-size.ensures
+    write_short e.args.head (written e) e.args.out.now counts.result counts.ensures c.before.before.before.if1.false c.before.before.text-size.result c.before.before.text-size.ensures
     c.before.if2.true c.refused.result c.refused.ensures
 
 put-text-requires : tie.Need-put-text-requires
 put-text-requires c κs =
     let e = c.before.before.before.before.before.before.before in
     let counts = c.before.before.before.before.before.count-tables in
-    write-fits e.args.head (written e) e.args.out.now counts.result counts.ensures c.before.before.before.if1.false c.before.before.text-size.result c.before.before.text-size.ensures
+    write_fits e.args.head (written e) e.args.out.now counts.result counts.ensures c.before.before.before.if1.false c.before.before.text-size.result c.before.before.text-size.ensures
     c.before.if2.false
 
 refused-requires-2 : tie.Need-refused-requires-2
@@ -52,7 +52,7 @@ returns-3 : tie.Need-returns-3
 returns-3 c =
     let e = c.before.before.before.before.before.before.before.before.before.before.before in
     let counts = c.before.before.before.before.before.before.before.before.before.count-tables in
-    write-fine e.args.head (written e) e.args.out.now counts.result counts.ensures c.before.before.before.before.before.before.before.if1.false c.before.before.before.before.before.before.text-size.result c.before.before.before.before.before.before.text-size.ensures
+    write_fine e.args.head (written e) e.args.out.now counts.result counts.ensures c.before.before.before.before.before.before.before.if1.false c.before.before.before.before.before.before.text-size.result c.before.before.before.before.before.before.text-size.ensures
     c.before.before.before.before.before.if2.false c.refused2.result c.refused2.ensures c.before.before.before.put-text.result c.before.before.before.put-text.new.1.1.0 c.before.before.before.put-text.ensures
 
 pub write_spec : {M : Type 1} → statement M

@@ -2,7 +2,7 @@
 -- Assumes nothing.
 use mathlib.Core.Path.{sym}
 use borrow.Author.Rules.{rules}
-use Rattle.groups.proofs.Adding.{refused-adds-none, front_long, ready-to-add, accepted-adds}
+use Rattle.groups.proofs.Adding.{refused_adds_none, front_long, ready_to_add, accepted_adds}
 use Rattle.groups.proofs.divide_all.Statement.{statement}
 use Rattle.groups.proofs.divide_all.Tie as tie
 
@@ -15,7 +15,7 @@ divide-requires c κs = search rules
 returns : tie.Need-returns
 returns c =
     let pre = c.before.before.before.before.before.before.requires in
-    refused-adds-none c.before.before.divide.ensures pre.few pre.few _ c.if1.true
+    refused_adds_none c.before.before.divide.ensures pre.few pre.few _ c.if1.true
 
 array-share-prefix-shares : tie.Need-array-share-prefix-shares
 array-share-prefix-shares c = search rules
@@ -28,7 +28,7 @@ slice-aggregate-add c =
 add-requires : tie.Need-add-requires
 add-requires c κs =
     let pre = c.before.before.before.before.before.before.before.before.requires in
-    ready-to-add c.before.before.before.before.divide.ensures pre.few pre.few c.before.before.if1.false _ pre
+    ready_to_add c.before.before.before.before.divide.ensures pre.few pre.few c.before.before.if1.false _ pre
 
 same_length : tie.Need-same-length
 same_length c = search rules
@@ -36,7 +36,7 @@ same_length c = search rules
 returns-2 : tie.Need-returns-2
 returns-2 c =
     let pre = c.before.before.before.before.before.before.before.before.before.before.before.requires in
-    accepted-adds c.before.before.before.before.before.before.before.divide.ensures pre.few pre.few
+    accepted_adds c.before.before.before.before.before.before.before.divide.ensures pre.few pre.few
     c.before.before.before.before.before.if1.false _ _ c.before.before.add.ensures
 
 pub divide-all-spec : {M : Type 1} → statement M

@@ -3,7 +3,7 @@
 use mathlib.Core.Path.{sym, subst}
 use borrow.Author.Rules.{rules}
 use Rattle.groups.specs.Columns.{Addable, Added}
-use Rattle.groups.proofs.Adding.{kept-front, kept-long}
+use Rattle.groups.proofs.Adding.{kept_front, kept_long}
 use Rattle.groups.proofs.divide_among.Statement.{statement}
 use Rattle.groups.proofs.divide_among.Tie as tie
 
@@ -19,13 +19,13 @@ array-share-prefix-members c = search rules
 slice-aggregate-divide-all : tie.Need-slice-aggregate-divide-all
 slice-aggregate-divide-all c =
     let pre = c.before.before.before.before.before.before.before.requires in
-    sym (kept-long c.before.before.keep.ensures pre.0.few)
+    sym (kept_long c.before.before.keep.ensures pre.0.few)
 
 divide-all-requires : tie.Need-divide-all-requires
 divide-all-requires c κs =
     let start = c.before.before.before.before.before.before.before.before in
     subst (λ n. Addable n start.args.column.now)
-    (sym (kept-long c.before.before.before.keep.ensures start.requires.0.few)) start.requires.0
+    (sym (kept_long c.before.before.before.keep.ensures start.requires.0.few)) start.requires.0
 
 same_length : tie.Need-same-length
 same_length c = search rules
@@ -35,7 +35,7 @@ returns c =
     let start = c.before.before.before.before.before.before.before.before.before.before.before in
     let divided = c.before.before.divide-all in
     subst (λ l. Added start.args.pot l start.args.column.now divided.new.1.1.0 divided.result)
-    (kept-front c.before.before.before.before.before.before.keep.ensures start.requires.0.few) divided.ensures
+    (kept_front c.before.before.before.before.before.before.keep.ensures start.requires.0.few) divided.ensures
 
 pub divide-among-spec : {M : Type 1} → statement M
 divide-among-spec =

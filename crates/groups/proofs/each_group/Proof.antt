@@ -4,7 +4,7 @@ use mathlib.Core.Path.{sym}
 use native.Mathlib.Omega.{arith}
 use borrow.Author.Rules.{rules}
 use Rattle.groups.specs.Groups.{pots_of}
-use Rattle.groups.proofs.Storing.{written_none, made-long, written_all}
+use Rattle.groups.proofs.Storing.{written_none, made_long, written_all}
 use Rattle.groups.proofs.Summing.{summed_none}
 use Rattle.groups.proofs.each_group.Statement.{statement}
 use Rattle.groups.proofs.each_group.Tie as tie
@@ -25,13 +25,13 @@ array-share-prefix-sums : tie.Need-array-share-prefix-sums
 array-share-prefix-sums c = search rules
 
 slice-aggregate-store : tie.Need-slice-aggregate-store
-slice-aggregate-store c = sym (made-long c.before.before.before.go-through.ensures c.before.if1.false)
+slice-aggregate-store c = sym (made_long c.before.before.before.go-through.ensures c.before.if1.false)
 
 store-requires : tie.Need-store-requires
 store-requires c κs =
     omega (
       arith,
-      made-long c.before.before.before.before.go-through.ensures c.before.before.if1.false,
+      made_long c.before.before.before.before.go-through.ensures c.before.before.if1.false,
       c.before.before.before.before.before.before.before.before.before.before.before.requires.1.0,
     )
 

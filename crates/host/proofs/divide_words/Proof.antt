@@ -12,7 +12,7 @@ use Rattle.division.specs.Shares.{shares, Divided}
 use Rattle.division.proofs.Laws.{length_shares}
 use Rattle.words.specs.Words.{numbers, bytes_of}
 use Rattle.words.proofs.Digits.{length_numbers}
-use Rattle.host.proofs.Calls.{refused, number_is, fits, shares-first, divided}
+use Rattle.host.proofs.Calls.{refused, number_is, fits, shares_first, divided}
 use Rattle.host.proofs.divide_words.Statement.{statement}
 use Rattle.host.proofs.divide_words.Tie as tie
 
@@ -51,7 +51,7 @@ first-shares : (c : tie.After-divide) → c.divide.result.answer.number ≡ 0
     (numbers c.before.before.before.before.before.before.before.before.before.before.before.before.args.weights.now)
 first-shares c e =
     let start = c.before.before.before.before.before.before.before.before.before.before.before.before in
-    shares-first _ _ _ start.requires.0 start.requires.1.0 _ c.before.before.before.at_most.ensures _ _ (room-long c) _ (made c) e
+    shares_first _ _ _ start.requires.0 start.requires.1.0 _ c.before.before.before.at_most.ensures _ _ (room-long c) _ (made c) e
     (drop c.before.before.before.at_most.result start.args.shares.now)
 
 load-requires : tie.Need-load-requires

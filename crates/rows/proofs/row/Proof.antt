@@ -28,7 +28,7 @@ unfolding row_of
 returns c =
     simp (
       c.row_number.ensures,
-      c.before.row-taken.ensures,
+      c.before.row_taken_lem.ensures,
       c.before.before.row-unlinked.ensures,
       c.before.before.before.row-not-above.ensures,
       c.before.before.before.before.row-outside.ensures,

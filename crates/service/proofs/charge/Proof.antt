@@ -3,7 +3,7 @@
 use mathlib.Core.Path.{sym}
 use native.Mathlib.Omega.{arith}
 use borrow.Author.Rules.{rules}
-use Rattle.groups.proofs.Storing.{written_none, made-long, written_all}
+use Rattle.groups.proofs.Storing.{written_none, made_long, written_all}
 use Rattle.groups.proofs.Summing.{summed_none}
 use Rattle.service.specs.Service.{service_of, zone_sides}
 use Rattle.service.proofs.charge.Statement.{statement}
@@ -26,13 +26,13 @@ array-share-prefix-charges : tie.Need-array-share-prefix-charges
 array-share-prefix-charges c = search rules
 
 slice-aggregate-store : tie.Need-slice-aggregate-store
-slice-aggregate-store c = sym (made-long c.before.before.before.charge-all.ensures c.before.if1.false)
+slice-aggregate-store c = sym (made_long c.before.before.before.charge-all.ensures c.before.if1.false)
 
 store-requires : tie.Need-store-requires
 store-requires c κs =
     omega (
       arith,
-      made-long c.before.before.before.before.charge-all.ensures c.before.before.if1.false,
+      made_long c.before.before.before.before.charge-all.ensures c.before.before.if1.false,
       c.before.before.before.before.before.before.before.before.before.before.before.before.requires.1.0,
     )
 

@@ -3,7 +3,7 @@
 use mathlib.Core.Path.{◌≡◌, refl}
 use borrow.Author.Rules.{rules}
 use Rattle.service.specs.Service.{service_of, nonzone_parts}
-use Rattle.service.proofs.Serving.{parts_are, zone_stops, room-for-nonzone, nonzone-ends}
+use Rattle.service.proofs.Serving.{parts_are, zone_stops, room_for_nonzone, nonzone_ends}
 use Rattle.service.proofs.charge_all.Statement.{statement}
 use Rattle.service.proofs.charge_all.Tie as tie
 
@@ -25,7 +25,7 @@ returns c = zone_stops c.before.before.before.before.charge-zones.ensures c.befo
 
 divide-all-requires : tie.Need-divide-all-requires
 divide-all-requires c κs =
-    room-for-nonzone c.before.before.before.before.charge-zones.ensures c.before.if1.false _
+    room_for_nonzone c.before.before.before.before.charge-zones.ensures c.before.if1.false _
     c.before.before.before.before.before.before.before.before.before.before.before.before.requires.0.both_parts
     c.before.before.before.before.before.before.before.before.before.before.before.before.requires.0.together.few_groups
 
@@ -43,7 +43,7 @@ same-length-2 c = search rules
 
 returns-2 : tie.Need-returns-2
 returns-2 c =
-    nonzone-ends c.before.before.before.before.before.before.before.before.charge-zones.ensures
+    nonzone_ends c.before.before.before.before.before.before.before.before.charge-zones.ensures
     c.before.before.before.before.before.if1.false _ (parts-of c.before.before.before.before.before.before.before.before.before.before.before.before.before.before.before.before) _ _
     c.before.before.before.divide-all.ensures _ c.refused.ensures
 

@@ -18,9 +18,9 @@ use Rattle.service.proofs.Charging.{
   uses_are,
   charged_none,
   nonzone_fits,
-  nonzone-next,
-  charged-more,
-  charged-stop,
+  nonzone_next,
+  charged_more,
+  charged_stop,
   charged_all,
 }
 use Rattle.service.proofs.charge_zones.Statement.{statement}
@@ -101,7 +101,7 @@ same_length c = search rules
 returns : tie.Need-returns invariant-loop decreases-loop
 returns c =
     let turn = c.before.before.before.before.before.before.before in
-    charged-stop turn.before.loop.invariant.2 _ _ _ (one-zone c.before.before.before) turn.loop-test.true c.if1.true
+    charged_stop turn.before.loop.invariant.2 _ _ _ (one-zone c.before.before.before) turn.loop-test.true c.if1.true
 
 add-sides : tie.Need-overflow-add-sides invariant-loop decreases-loop
 add-sides c =
@@ -110,7 +110,7 @@ add-sides c =
     omega (
       arith,
       nonzone_fits l.invariant.2,
-      nonzone-next l.invariant.2 _ _ _ (one-zone charged) c.before.if1.false,
+      nonzone_next l.invariant.2 _ _ _ (one-zone charged) c.before.if1.false,
       (start_of charged).requires.0.together.few_groups,
     )
 
@@ -125,7 +125,7 @@ loop-again c =
     let l = c.before.before.before.before.before.before.before.before.before.loop in (
       omega arith,
       c.before.before.before.before.charge-zone.auto.1.1.1.1.1.1.0 ∙ l.invariant.1,
-      charged-more l.invariant.2 _ _ _ (one-zone c.before.before.before.before) c.before.if1.false,
+      charged_more l.invariant.2 _ _ _ (one-zone c.before.before.before.before) c.before.if1.false,
       l.invariant.3,
     )
 

@@ -2,7 +2,7 @@
 -- Assumes nothing.
 use lib.Dec.{lit<, lit≤}
 use borrow.Author.Rules.{rules}
-use Rattle.groups.proofs.Adding.{number-by-size, share-written}
+use Rattle.groups.proofs.Adding.{number_by_size, share_written}
 use Rattle.service.proofs.split.Statement.{statement}
 use Rattle.service.proofs.split.Tie as tie
 
@@ -25,9 +25,9 @@ returns : tie.Need-returns
 returns c =
     let made = c.before.divide.ensures in
     record {
-      number = number-by-size made (lit≤ tt) (lit≤ tt);
-      zone_side_lem = λ e. share-written made (lit≤ tt) (lit≤ tt) e 0 (lit< tt);
-      nonzone_side_lem = λ e. share-written made (lit≤ tt) (lit≤ tt) e 1 (lit< tt);
+      number = number_by_size made (lit≤ tt) (lit≤ tt);
+      zone_side_lem = λ e. share_written made (lit≤ tt) (lit≤ tt) e 0 (lit< tt);
+      nonzone_side_lem = λ e. share_written made (lit≤ tt) (lit≤ tt) e 1 (lit< tt);
     }
 
 pub split-spec : {M : Type 1} → statement M

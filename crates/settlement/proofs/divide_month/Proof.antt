@@ -13,7 +13,7 @@ use Rattle.tables.specs.declared.Table.TheVariants.{Zones}
 use Rattle.tables.specs.Shape.{limit, tables_from}
 use Rattle.pool.specs.Input.{Input}
 use Rattle.settlement.specs.Steps.{month_with}
-use Rattle.settlement.proofs.Settling.{first_long, account-column, new_whole, Begun, whole₁, divisible, servable, whole₂, whole₃, whole₄, reservable, whole₅, month-divided}
+use Rattle.settlement.proofs.Settling.{first_long, account_column, new_whole, Begun, whole₁, divisible, servable, whole₂, whole₃, whole₄, reservable, whole₅, month_divided}
 use Rattle.settlement.proofs.divide_month.Statement.{statement}
 use Rattle.settlement.proofs.divide_month.Tie as tie
 
@@ -70,7 +70,7 @@ fill-requires : tie.Need-fill-requires
 fill-requires c κs =
     let start = start_of c.before.before.before in
     let pre = start.pre in
-    let few = pre.0.fillable.few in (pre.0.fillable, (account-column (month_at start) pre.0 (new_whole pre.1) 0 (omega arith), few, few))
+    let few = pre.0.fillable.few in (pre.0.fillable, (account_column (month_at start) pre.0 (new_whole pre.1) 0 (omega arith), few, few))
 
 slice-reshare-prefix-credit : tie.Need-slice-reshare-prefix-credit
 slice-reshare-prefix-credit c = search rules
@@ -239,11 +239,11 @@ returns c =
     let credited = credited_at served in
     let filled = filled_at credited in
     let counted = counted_at filled in
-    month-divided (begun filled) credited.credit.ensures served.settle.ensures served-too.settle2.ensures last.settle3.ensures refl refl
+    month_divided (begun filled) credited.credit.ensures served.settle.ensures served-too.settle2.ensures last.settle3.ensures refl refl
     (ap (λ k. k + 1) counted.rows_of_lem.ensures) (ap (λ k. 3 * k + 2) counted.rows_of_lem.ensures) (ap (λ k. 5 * k + 3) counted.rows_of_lem.ensures)
     (c.in-turn3.ensures
     ∙ ap (λ r. r then last.settle3.result)
-    (c.before.in-turn2.ensures ∙ ap (λ r. r then served-too.settle2.result) c.before.before.in-turn.ensures))
+    (c.before.in-turn2.ensures ∙ ap (λ r. r then served-too.settle2.result) c.before.before.in_turn.ensures))
 
 pub divide-month-spec : {M : Type 1} → statement M
 divide-month-spec =

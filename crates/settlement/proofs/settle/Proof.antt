@@ -4,7 +4,7 @@ use mathlib.Core.Path.{sym, ◌∙◌}
 use mathlib.Core.List.{map}
 use borrow.Author.Rules.{rules}
 use Rattle.tables.specs.Shape.{Tables, tables_from}
-use Rattle.settlement.proofs.Writing.{all_refused, handed-on, can-settle, all_settled}
+use Rattle.settlement.proofs.Writing.{all_refused, handed_on, can_settle, all_settled}
 use Rattle.settlement.proofs.settle.Statement.{statement}
 use Rattle.settlement.proofs.settle.Tie as tie
 
@@ -21,8 +21,8 @@ settle-good-requires c κs =
     let a = judge.before.before.before.args in
     let t : Tables = tables_from (map (λ x. x.now) a.tables) in
     let handed = sym judge.judge.ensures ∙ made.month.given.1 in
-    let good = handed-on a.head t a.charges.now a.credits.now _ handed in
-    (can-settle a.head t a.charges.now a.credits.now _ handed, (good.frame.roomy.charges_fit, good.frame.roomy.credits_fit))
+    let good = handed_on a.head t a.charges.now a.credits.now _ handed in
+    (can_settle a.head t a.charges.now a.credits.now _ handed, (good.frame.roomy.charges_fit, good.frame.roomy.credits_fit))
 
 enum-known-answer : tie.Need-enum-known-answer
 enum-known-answer c = search rules

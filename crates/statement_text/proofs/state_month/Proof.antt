@@ -8,7 +8,7 @@ use borrow.Author.Rules.{rules}
 use Rattle.tables.specs.declared.Table.TheVariants.{Owners, Accounts}
 use Rattle.tables.specs.Shape.{limit, charge_width, credit_width}
 use Rattle.statement_text.specs.Calls.{Shows}
-use Rattle.statement_text.proofs.Stating.{month_refused, month-figured, month-stated}
+use Rattle.statement_text.proofs.Stating.{month_refused, month_figured, month_stated}
 use Rattle.statement_text.proofs.state_month.Statement.{statement}
 use Rattle.statement_text.proofs.state_month.Tie as tie
 
@@ -48,7 +48,7 @@ slice-aggregate-show-month-2 c = search rules
 
 show-month-requires : tie.Need-show-month-requires
 show-month-requires c κs =
-    month-figured c.before.before.before.before.before.before.before.before.before.settle.ensures (length-replicate {A = ℕ} (limit Accounts * charge_width) 0) (length-replicate {A = ℕ} (limit Owners * credit_width) 0) c.before.before.before.before.before.if1.false c.before.before.before.before.words_of.ensures c.before.before.before.words-of2.ensures
+    month_figured c.before.before.before.before.before.before.before.before.before.settle.ensures (length-replicate {A = ℕ} (limit Accounts * charge_width) 0) (length-replicate {A = ℕ} (limit Owners * credit_width) 0) c.before.before.before.before.before.if1.false c.before.before.before.before.words_of.ensures c.before.before.before.words-of2.ensures
 
 same-length-2 : tie.Need-same-length-2
 same-length-2 c = search rules
@@ -57,7 +57,7 @@ returns-2 : tie.Need-returns-2
 returns-2 c =
     let shown = c.before.before.show-month in
     subst (λ l. Shows l c.before.before.before.before.before.before.before.before.before.before.before.before.before.before.before.before.args.out.now shown.new.1.1.1.1.0 shown.result)
-    (month-stated c.before.before.before.before.before.before.before.before.before.before.before.before.settle.ensures (length-replicate {A = ℕ} (limit Accounts * charge_width) 0) (length-replicate {A = ℕ} (limit Owners * credit_width) 0) c.before.before.before.before.before.before.before.before.if1.false c.before.before.before.before.before.before.before.words_of.ensures c.before.before.before.before.before.before.words-of2.ensures)
+    (month_stated c.before.before.before.before.before.before.before.before.before.before.before.before.settle.ensures (length-replicate {A = ℕ} (limit Accounts * charge_width) 0) (length-replicate {A = ℕ} (limit Owners * credit_width) 0) c.before.before.before.before.before.before.before.before.if1.false c.before.before.before.before.before.before.before.words_of.ensures c.before.before.before.before.before.before.words-of2.ensures)
     shown.ensures
 
 pub state-month-spec : {M : Type 1} → statement M

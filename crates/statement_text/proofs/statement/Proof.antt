@@ -14,7 +14,7 @@ use Rattle.fileread.specs.declared.Reading.{Reading}
 use Rattle.fileread.specs.Calls.{count_in}
 use Rattle.statement_lines.specs.Lines.{refuse_line}
 use Rattle.statement_text.specs.Calls.{Shows}
-use Rattle.statement_text.proofs.Held.{lent, lent_full, text_refused, rows_few, rows_there, text-month}
+use Rattle.statement_text.proofs.Held.{lent, lent_full, text_refused, rows_few, rows_there, text_month}
 use Rattle.statement_text.proofs.Stating.{long_text, short_text}
 use Rattle.statement_text.proofs.statement.Statement.{statement}
 use Rattle.statement_text.proofs.statement.Tie as tie
@@ -195,7 +195,7 @@ returns-3 c =
     let read = reached filled in
     let a = (start_of read).args in
     subst (λ l. Shows l a.out.now shown.new.1.1.0 shown.result)
-    (text-month a.text.now lent lent_full (held read) (after read) read.read.ensures filled.if2.false
+    (text_month a.text.now lent lent_full (held read) (after read) read.read.ensures filled.if2.false
     ∙ sym (short_text a.text.now (short_of read).if1.left)) shown.ensures
 
 pub statement-spec : {M : Type 1} → statement M

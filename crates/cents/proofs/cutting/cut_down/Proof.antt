@@ -4,7 +4,7 @@ use native.Mathlib.Nat.{le_refl}
 use native.Mathlib.Omega.{arith}
 use lib.ListN.{length}
 use borrow.Author.Rules.{rules}
-use Rattle.cents.proofs.Stretches.{cut_on, cut_all, given-small}
+use Rattle.cents.proofs.Stretches.{cut_on, cut_all, given_small}
 use Rattle.cents.proofs.cutting.cut_down.Statement.{statement}
 use Rattle.cents.proofs.cutting.cut_down.Tie as tie
 
@@ -22,7 +22,7 @@ add-result c =
     let start = c.before.before.before.before.before.before.before.before.before.before.before.before.before.before.before.before.before in
     let a = start.args in
     let all = cut_on a.pot a.weights.now a.whole c.before.before.before.before.before.before.before.before.before.before.before.cut-fours.ensures c.before.before.before.before.cut-rest.ensures in
-    omega (arith, given-small a.pot a.weights.now a.whole start.requires.0 (length a.weights.now) (le_refl (length a.weights.now)) start.requires.1.few all)
+    omega (arith, given_small a.pot a.weights.now a.whole start.requires.0 (length a.weights.now) (le_refl (length a.weights.now)) start.requires.1.few all)
 
 same_length : tie.Need-same-length
 same_length c = search rules

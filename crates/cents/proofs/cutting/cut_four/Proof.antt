@@ -9,7 +9,7 @@ use lib.ListN.{length}
 use borrow.Author.Rules.{rules}
 use Rattle.cents.specs.Dealt.{most}
 use Rattle.cents.proofs.Bounds.{weight_fits}
-use Rattle.cents.proofs.Stretches.{cut_next, cut_on, room_on, may-keep, cents-small}
+use Rattle.cents.proofs.Stretches.{cut_next, cut_on, room_on, may_keep, cents_small}
 use Rattle.cents.proofs.cutting.cut_four.Statement.{statement}
 use Rattle.cents.proofs.cutting.cut_four.Tie as tie
 
@@ -69,7 +69,7 @@ keep-requires : tie.Need-keep-requires
 keep-requires c κs =
     let start = c.before.before.before.before.before.before.before.before.before.before in
     let parts = c.before.before.quotients.ensures in
-    may-keep start.args.pot start.args.weights.now start.args.whole start.requires.0 start.args.i (within start).0
+    may_keep start.args.pot start.args.weights.now start.args.whole start.requires.0 start.args.i (within start).0
     parts.at_first start.requires.1.0
 
 add-keep : tie.Need-overflow-add-keep
@@ -79,7 +79,7 @@ keep-requires-2 : tie.Need-keep-requires-2
 keep-requires-2 c κs =
     let start = c.before.before.before.before.before.before.before.before.before.before.before.before.before.before.before.before.before in
     let parts = c.before.before.before.before.before.before.before.before.before.quotients.ensures in
-    may-keep start.args.pot start.args.weights.now start.args.whole start.requires.0 (start.args.i + 1) (within start).1
+    may_keep start.args.pot start.args.weights.now start.args.whole start.requires.0 (start.args.i + 1) (within start).1
     parts.at_second (room_on start.requires.1.0 c.before.before.before.before.before.before.keep.ensures)
 
 add-keep-2 : tie.Need-overflow-add-keep-2
@@ -89,7 +89,7 @@ keep-requires-3 : tie.Need-keep-requires-3
 keep-requires-3 c κs =
     let start = c.before.before.before.before.before.before.before.before.before.before.before.before.before.before.before.before.before.before.before.before.before.before.before.before in
     let parts = c.before.before.before.before.before.before.before.before.before.before.before.before.before.before.before.before.quotients.ensures in
-    may-keep start.args.pot start.args.weights.now start.args.whole start.requires.0 (start.args.i + 2) (within start).2
+    may_keep start.args.pot start.args.weights.now start.args.whole start.requires.0 (start.args.i + 2) (within start).2
     parts.at_third (room_on (room_on start.requires.1.0 c.before.before.before.before.before.before.before.before.before.before.before.before.before.keep.ensures) c.before.before.before.before.before.before.keep2.ensures)
 
 add-keep-3 : tie.Need-overflow-add-keep-3
@@ -99,7 +99,7 @@ keep-requires-4 : tie.Need-keep-requires-4
 keep-requires-4 c κs =
     let start = c.before.before.before.before.before.before.before.before.before.before.before.before.before.before.before.before.before.before.before.before.before.before.before.before.before.before.before.before.before.before.before in
     let parts = c.before.before.before.before.before.before.before.before.before.before.before.before.before.before.before.before.before.before.before.before.before.before.before.quotients.ensures in
-    may-keep start.args.pot start.args.weights.now start.args.whole start.requires.0 (start.args.i + 3) (within start).3
+    may_keep start.args.pot start.args.weights.now start.args.whole start.requires.0 (start.args.i + 3) (within start).3
     parts.at_fourth (room_on (room_on (room_on start.requires.1.0 c.before.before.before.before.before.before.before.before.before.before.before.before.before.before.before.before.before.before.before.before.keep.ensures) c.before.before.before.before.before.before.before.before.before.before.before.before.before.keep2.ensures) c.before.before.before.before.before.before.keep3.ensures)
 
 sums-fit : (c : tie.After-slice-known10) → Fits w64 (c.before.before.before.before.before.before.before.before.before.before.before.before.before.before.before.before.before.before.before.before.before.before.before.before.before.keep.result + c.before.before.before.before.before.before.before.before.before.before.before.before.before.before.before.before.before.before.keep2.result) × Fits w64 (c.before.before.before.before.before.before.before.before.before.before.before.before.before.before.before.before.before.before.before.before.before.before.before.before.before.keep.result + c.before.before.before.before.before.before.before.before.before.before.before.before.before.before.before.before.before.before.keep2.result + c.before.before.before.before.before.before.before.before.before.before.before.keep3.result) × Fits w64 (c.before.before.before.before.before.before.before.before.before.before.before.before.before.before.before.before.before.before.before.before.before.before.before.before.before.keep.result + c.before.before.before.before.before.before.before.before.before.before.before.before.before.before.before.before.before.before.keep2.result + c.before.before.before.before.before.before.before.before.before.before.before.keep3.result + c.before.before.before.before.keep4.result)
@@ -111,10 +111,10 @@ sums-fit c =
     let whole = start.args.whole in
     let base = start.requires.0 in
     four_fit
-    (cents-small pot weights whole base start.args.i (within start).0 parts.at_first c.before.before.before.before.before.before.before.before.before.before.before.before.before.before.before.before.before.before.before.before.before.before.before.before.before.keep.ensures)
-    (cents-small pot weights whole base (start.args.i + 1) (within start).1 parts.at_second c.before.before.before.before.before.before.before.before.before.before.before.before.before.before.before.before.before.before.keep2.ensures)
-    (cents-small pot weights whole base (start.args.i + 2) (within start).2 parts.at_third c.before.before.before.before.before.before.before.before.before.before.before.keep3.ensures)
-    (cents-small pot weights whole base (start.args.i + 3) (within start).3 parts.at_fourth c.before.before.before.before.keep4.ensures)
+    (cents_small pot weights whole base start.args.i (within start).0 parts.at_first c.before.before.before.before.before.before.before.before.before.before.before.before.before.before.before.before.before.before.before.before.before.before.before.before.before.keep.ensures)
+    (cents_small pot weights whole base (start.args.i + 1) (within start).1 parts.at_second c.before.before.before.before.before.before.before.before.before.before.before.before.before.before.before.before.before.before.keep2.ensures)
+    (cents_small pot weights whole base (start.args.i + 2) (within start).2 parts.at_third c.before.before.before.before.before.before.before.before.before.before.before.keep3.ensures)
+    (cents_small pot weights whole base (start.args.i + 3) (within start).3 parts.at_fourth c.before.before.before.before.keep4.ensures)
 
 add-result : tie.Need-overflow-add-result
 add-result c = (sums-fit c).0

@@ -3,7 +3,7 @@
 use mathlib.Core.Path.{refl}
 use borrow.Author.Rules.{rules}
 use Rattle.cents.proofs.Bounds.{weight_fits}
-use Rattle.cents.proofs.Stretches.{cut_next, may-keep}
+use Rattle.cents.proofs.Stretches.{cut_next, may_keep}
 use Rattle.cents.proofs.cutting.cut_one.Statement.{statement}
 use Rattle.cents.proofs.cutting.cut_one.Tie as tie
 
@@ -26,7 +26,7 @@ quotient-requires c κs =
 keep-requires : tie.Need-keep-requires
 keep-requires c κs =
     let start = c.before.before.before.before.before.before.before in
-    may-keep start.args.pot start.args.weights.now start.args.whole start.requires.0 start.args.i start.requires.1.1
+    may_keep start.args.pot start.args.weights.now start.args.whole start.requires.0 start.args.i start.requires.1.1
     c.before.before.quotient.ensures start.requires.1.0
 
 same_length : tie.Need-same-length

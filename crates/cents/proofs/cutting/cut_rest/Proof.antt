@@ -6,7 +6,7 @@ use native.Mathlib.Omega.{arith}
 use lib.ListN.{length}
 use borrow.Author.Rules.{rules}
 use Rattle.cents.specs.Steps.{Cut}
-use Rattle.cents.proofs.Stretches.{cut_none, cut_on, cut_to, given-small}
+use Rattle.cents.proofs.Stretches.{cut_none, cut_on, cut_to, given_small}
 use Rattle.cents.proofs.cutting.cut_rest.Statement.{statement}
 use Rattle.cents.proofs.cutting.cut_rest.Tie as tie
 
@@ -37,7 +37,7 @@ add-given c =
     let start = c.before.before.before.before.before.before.before.before.before.before.before.before in
     let l = c.before.before.before.before.before.before.before.before.loop in
     let done = cut_on start.args.pot start.args.weights.now start.args.whole l.invariant.3 c.before.before.before.before.cut-one.ensures in
-    omega (arith, given-small start.args.pot start.args.weights.now start.args.whole start.requires.0 (l.i + 1) (search rules) start.requires.1.0.few done)
+    omega (arith, given_small start.args.pot start.args.weights.now start.args.whole start.requires.0 (l.i + 1) (search rules) start.requires.1.0.few done)
 
 add-i : tie.Need-overflow-add-i invariant-loop decreases-loop
 add-i c = search rules

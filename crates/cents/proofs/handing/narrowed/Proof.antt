@@ -3,19 +3,19 @@
 use mathlib.Core.Logic.{inl, inr}
 use native.Mathlib.Omega.{arith}
 use borrow.Author.Rules.{rules}
-use Rattle.cents.proofs.Standing.{as-known, gets-one, gets_none}
+use Rattle.cents.proofs.Standing.{as_known, gets_one, gets_none}
 use Rattle.cents.proofs.handing.narrowed.Statement.{statement}
 use Rattle.cents.proofs.handing.narrowed.Tie as tie
 
 returns : tie.Need-returns
 returns c =
     let start = c.before.before.before in
-    as-known start.args.left start.args.keys.now start.args.key _ _ start.requires.1 (inl c.if1.true)
+    as_known start.args.left start.args.keys.now start.args.key _ _ start.requires.1 (inl c.if1.true)
 
 returns-2 : tie.Need-returns-2
 returns-2 c =
     let start = c.before.before.before.before.before in
-    as-known start.args.left start.args.keys.now start.args.key _ _ start.requires.1 (inr c.if2.true)
+    as_known start.args.left start.args.keys.now start.args.key _ _ start.requires.1 (inr c.if2.true)
 
 standing-requires : tie.Need-standing-requires
 standing-requires c κs = search rules
@@ -23,7 +23,7 @@ standing-requires c κs = search rules
 returns-3 : tie.Need-returns-3
 returns-3 c =
     let start = c.before.before.before.before.before.before.before in
-    gets-one start.args.left start.args.keys.now start.args.key _ _ start.requires.1
+    gets_one start.args.left start.args.keys.now start.args.key _ _ start.requires.1
     (omega (arith, c.before.standing.ensures, c.if3.true))
 
 add-t6 : tie.Need-overflow-add-t6

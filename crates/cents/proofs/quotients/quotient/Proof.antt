@@ -30,10 +30,10 @@ steady c =
     steady_at (2 ^ 62 / start.args.whole) start.args.weight start.args.whole (wide start) start.requires.1
     start.args.pot c.before.loop.left c.before.loop.part.cents c.before.loop.part.rest start.requires.0 c.before.loop.invariant.1
 
-all-passed : (c : tie.After-loop invariant-loop decreases-loop)
+all_passed : (c : tie.After-loop invariant-loop decreases-loop)
     → Passed c.before.before.args.pot (2 ^ 62 / c.before.before.args.whole * c.before.before.args.weight)
     (2 ^ 62 / c.before.before.args.whole * c.before.before.args.whole) c.before.loop.part.cents c.before.loop.part.rest
-all-passed c = passed_all c.before.before.args.pot c.before.loop.left _ _ _ _ (omega arith) c.before.loop.invariant.1
+all_passed c = passed_all c.before.before.args.pot c.before.loop.left _ _ _ _ (omega arith) c.before.loop.invariant.1
 
 div-factor : tie.Need-nonzero-div-factor invariant-loop decreases-loop
 div-factor c = search rules
@@ -74,7 +74,7 @@ settle-requires : tie.Need-settle-requires invariant-loop decreases-loop
 settle-requires c κs =
     let start = c.before.before in (
       cents_fit (2 ^ 62 / start.args.whole) start.args.weight start.args.whole (wide start) start.requires.1
-          start.args.pot start.args.pot _ _ start.requires.0 (le_refl start.args.pot) (all-passed c),
+          start.args.pot start.args.pot _ _ start.requires.0 (le_refl start.args.pot) (all_passed c),
       (wide start).positive,
     )
 
@@ -82,7 +82,7 @@ returns : tie.Need-returns invariant-loop decreases-loop
 returns c =
     let start = c.before.before.before in
     quotient_is (2 ^ 62 / start.args.whole) start.args.weight start.args.whole (wide start) start.requires.1
-    start.args.pot _ _ (all-passed c.before) _ _ start.requires.3 c.settle.ensures
+    start.args.pot _ _ (all_passed c.before) _ _ start.requires.3 c.settle.ensures
 
 pub quotient-spec : {M : Type 1} → statement M
 quotient-spec =

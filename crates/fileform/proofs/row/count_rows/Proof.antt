@@ -5,7 +5,7 @@ use Prim.Native.Nat.{◌≤◌, ◌+◌}
 use native.Mathlib.Omega.{arith}
 use lib.ListN.{length, drop}
 use Rattle.fileform.specs.Reading.{row_lines}
-use Rattle.fileform.proofs.RowWalks.{RowsPartly, rows_start, rows-missing, rows_next, rows_end}
+use Rattle.fileform.proofs.RowWalks.{RowsPartly, rows_start, rows_missing, rows_next, rows_end}
 use Rattle.text.specs.Lines.{line}
 use borrow.Author.Rules.{rules}
 use Rattle.fileform.proofs.row.count_rows.Statement.{statement}
@@ -29,7 +29,7 @@ next-line-requires c κs = search rules
 
 returns : tie.Need-returns invariant-loop decreases-loop
 returns c =
-    rows-missing (line c.before.before.before.before.before.before.args.key.now c.before.before.before.before.before.before.args.width) c.before.before.before.before.before.before.args.text.now _ c.before.before.before.loop.i c.before.before.before.loop.count c.before.before.before.loop.left c.before.before.before.loop.invariant.2
+    rows_missing (line c.before.before.before.before.before.before.args.key.now c.before.before.before.before.before.before.args.width) c.before.before.before.before.before.before.args.text.now _ c.before.before.before.loop.i c.before.before.before.loop.count c.before.before.before.loop.left c.before.before.before.loop.invariant.2
     c.before.before.loop-test.true c.before.next-line.result c.before.next-line.ensures c.before.before.before.loop.invariant.0 c.if1.true
 
 add-count : tie.Need-overflow-add-count invariant-loop decreases-loop

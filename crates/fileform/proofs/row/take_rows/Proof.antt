@@ -7,7 +7,7 @@ use lib.ListN.{length, drop}
 use Rattle.text.specs.Places.{stored}
 use Rattle.text.proofs.Stores.{stored_none}
 use Rattle.fileform.specs.Reading.{RowsRead, row_lines}
-use Rattle.fileform.proofs.RowWalks.{mul_down, row_there, rows_there, rows_behind, rows-stored, rows_done}
+use Rattle.fileform.proofs.RowWalks.{mul_down, row_there, rows_there, rows_behind, rows_stored, rows_done}
 use Rattle.text.specs.Lines.{line}
 use Rattle.fileform.proofs.Agree.{line_agrees}
 use borrow.Author.Rules.{rules}
@@ -55,7 +55,7 @@ loop-again c =
       omega (arith, mul_down c.before.before.before.before.before.loop.left c.before.before.before.before.before.before.before.before.before.args.width c.before.before.before.before.loop-test.true, l.invariant.1),
       rows_there (line a.key.now a.width) a.text.now l.i l.left p l.invariant.2 l.words l.place t.result after t.ensures,
       rows_behind (line a.key.now a.width) a.text.now l.i l.left p l.invariant.2 l.words l.place t.result after t.ensures ∙ l.invariant.3,
-      rows-stored (line a.key.now a.width) a.text.now l.i l.left p l.invariant.2 l.words l.place t.result after t.ensures _ a.width (line_agrees a.key.now a.width) ∙ l.invariant.4,
+      rows_stored (line a.key.now a.width) a.text.now l.i l.left p l.invariant.2 l.words l.place t.result after t.ensures _ a.width (line_agrees a.key.now a.width) ∙ l.invariant.4,
       t.auto.1.1.1.1.0 ∙ l.invariant.5,
     )
 

@@ -11,7 +11,7 @@ use Rattle.text.specs.Places.{stored}
 use Rattle.fileform.specs.Form.{kind_of, line_of}
 use Rattle.fileform.specs.Reading.{nth, row_lines}
 use Rattle.fileform.specs.Calls.{RowsTaken}
-use Rattle.fileread.proofs.Filling.{Standing, Took, table_there, table-took, all_taken}
+use Rattle.fileread.proofs.Filling.{Standing, Took, table_there, table_took, all_taken}
 use borrow.Author.Rules.{rules}
 use Rattle.fileread.proofs.fill.fill.Statement.{statement}
 use Rattle.fileread.proofs.fill.fill.Tie as tie
@@ -44,7 +44,7 @@ module _ (e : tie.Start) (table : Table) {i : ℕ} (stands : Stand e (place_of t
   takes : (next : ℕ) (after : List ℕ)
       → RowsTaken e.args.text.now (row_lines (line_of (kind_of table)) (count e table) (drop i e.args.text.now)) (words_of (lent e) table) next after
       → Takes e table next after
-  takes = table-took table stands (count e table) (e.pre.counted table) (words_of (lent e) table)
+  takes = table_took table stands (count e table) (e.pre.counted table) (words_of (lent e) table)
 
 -- the function's entry, from behind each call, and what the call leaves
 abbrev start1 : tie.After-take-table → tie.Start

@@ -7,7 +7,7 @@ use native.Mathlib.Omega.{arith}
 use lib.ListN.{length, drop}
 use Rattle.fileform.specs.Form.{head_keys, head_count}
 use Rattle.fileform.specs.Reading.{Outcome, head_lines}
-use Rattle.fileread.proofs.LineWalks.{Walking, itself, first_lines, month_stop, month-there, days-stop, days-there, days-next, further-stop, further-next, further_end}
+use Rattle.fileread.proofs.LineWalks.{Walking, itself, first_lines, month_stop, month_there, days_stop, days_there, days_next, further_stop, further_next, further_end}
 use borrow.Author.Rules.{rules}
 use Rattle.fileread.proofs.judge.judge_heads.Statement.{statement}
 use Rattle.fileread.proofs.judge.judge_heads.Tie as tie
@@ -29,7 +29,7 @@ behind-days : (c : tie.After-slice-known3 invariant-loop decreases-loop)
     → Walking (first_lines (start c).args.text.now) (head_lines (length (start c).args.text.now) (drop 2 head_keys) (drop c.before.before.before.before.before.before.before.before.before.before.before.before.next-two-lines.result.second (start c).args.text.now)) itself
     (start c).args.head.now c.before.before.take-next-line2.new.1.1.1.1.0 2
 behind-days c =
-    days-next (start c).args.text.now (start c).args.head.now _ c.before.before.before.before.before.before.before.before.before.before.before.before.next-two-lines.ensures c.before.before.before.before.before.before.before.before.before.before.before.if1.false c.before.before.before.before.before.before.before.before.before.before.if2.false _ _
+    days_next (start c).args.text.now (start c).args.head.now _ c.before.before.before.before.before.before.before.before.before.before.before.before.next-two-lines.ensures c.before.before.before.before.before.before.before.before.before.before.before.if1.false c.before.before.before.before.before.before.before.before.before.before.if2.false _ _
     c.before.before.before.before.before.before.before.take-next-line.ensures.written c.before.before.take-next-line2.ensures.written
 
 slice-aggregate-next-two-lines : tie.Need-slice-aggregate-next-two-lines invariant-loop decreases-loop
@@ -55,7 +55,7 @@ unfit-requires-2 c κs = search rules
 returns-2 : tie.Need-returns-2 invariant-loop decreases-loop
 returns-2 c =
     let a = c.before.before.before.before.before.before.before.before.args in
-    days-stop a.text.now a.head.now _ c.before.before.before.next-two-lines.ensures c.before.before.if1.false c.before.if2.true _ c.unfit2.ensures _
+    days_stop a.text.now a.head.now _ c.before.before.before.next-two-lines.ensures c.before.before.if1.false c.before.if2.true _ c.unfit2.ensures _
 
 slice-aggregate-take-next-line : tie.Need-slice-aggregate-take-next-line invariant-loop decreases-loop
 slice-aggregate-take-next-line c = search rules
@@ -63,7 +63,7 @@ slice-aggregate-take-next-line c = search rules
 take-next-line-requires : tie.Need-take-next-line-requires invariant-loop decreases-loop
 take-next-line-requires c κs =
     let a = c.before.before.before.before.before.before.before.before.before.args in
-    (month-there a.text.now a.head.now _ c.before.before.before.before.next-two-lines.ensures c.before.before.before.if1.false, omega arith)
+    (month_there a.text.now a.head.now _ c.before.before.before.before.next-two-lines.ensures c.before.before.before.if1.false, omega arith)
 
 slice-aggregate-take-next-line-2 : tie.Need-slice-aggregate-take-next-line-2 invariant-loop decreases-loop
 slice-aggregate-take-next-line-2 c = search rules
@@ -71,7 +71,7 @@ slice-aggregate-take-next-line-2 c = search rules
 take-next-line-requires-2 : tie.Need-take-next-line-requires-2 invariant-loop decreases-loop
 take-next-line-requires-2 c κs =
     let a = c.before.before.before.before.before.before.before.before.before.before.before.before.before.before.args in
-    (days-there a.text.now a.head.now _ c.before.before.before.before.before.before.before.before.before.next-two-lines.ensures c.before.before.before.before.before.before.before.before.if1.false c.before.before.before.before.before.before.before.if2.false, omega (arith, c.before.before.before.before.take-next-line.auto.1.1.1.1.0))
+    (days_there a.text.now a.head.now _ c.before.before.before.before.before.before.before.before.before.next-two-lines.ensures c.before.before.before.before.before.before.before.before.if1.false c.before.before.before.before.before.before.before.if2.false, omega (arith, c.before.before.before.before.take-next-line.auto.1.1.1.1.0))
 
 loop-holds : tie.Need-loop-init invariant-loop decreases-loop
 loop-holds c =
@@ -91,7 +91,7 @@ returns-3 c =
     let l = c.before.before.before.before.before.before.before in
     let t = c.before.before.before.before.take_head in
     let a = (start l.before).args in
-    further-stop a.text.now _ a.head.now l.loop.head l.loop.i l.loop.k (l.loop.invariant.3 _ _ (behind-days l.before)) l.loop.invariant.0
+    further_stop a.text.now _ a.head.now l.loop.head l.loop.i l.loop.k (l.loop.invariant.3 _ _ (behind-days l.before)) l.loop.invariant.0
     c.before.before.before.before.before.before.loop-test.true t.result _ t.ensures c.before.if3.true _ c.unfit3.ensures _
 
 add-k : tie.Need-overflow-add-k invariant-loop decreases-loop
@@ -109,7 +109,7 @@ loop-again c =
       omega arith,
       t.auto.1.1.1.0 ∙ l.loop.invariant.2,
       λ o lent w.
-          further-next a.text.now o lent l.loop.head l.loop.i l.loop.k (l.loop.invariant.3 o lent w) l.loop.invariant.0
+          further_next a.text.now o lent l.loop.head l.loop.i l.loop.k (l.loop.invariant.3 o lent w) l.loop.invariant.0
           c.before.before.before.before.before.loop-test.true t.result _ t.ensures c.if3.false,
     )
 

@@ -11,7 +11,7 @@ use Rattle.fileform.specs.Form.{kind_of, line_of, month_form}
 use Rattle.fileform.specs.Reading.{row_lines, table_lines}
 use Rattle.fileform.specs.Calls.{CountedAt}
 use Rattle.fileread.specs.Calls.{counts_of}
-use Rattle.fileread.proofs.LineWalks.{Walking, walk_start, counts_more, table-stop, table-next, table_end}
+use Rattle.fileread.proofs.LineWalks.{Walking, walk_start, counts_more, table_stop, table_next, table_end}
 use borrow.Author.Rules.{rules}
 use Rattle.fileread.proofs.judge.judge_tables.Statement.{statement}
 use Rattle.fileread.proofs.judge.judge_tables.Tie as tie
@@ -51,7 +51,7 @@ returns c =
     c.before.before.before.before.before.table_at.ensures c.before.before.before.count-table.ensures in
     let most : c.before.before.before.before.limit.result ≡ limit (table_at c.before.before.before.before.before.before.before.loop.k) = (c.before.before.before.before.limit.ensures ∙ ap limit c.before.before.before.before.before.table_at.ensures) in
     let called : c.before.number.result ≡ number (table_at c.before.before.before.before.before.before.before.loop.k) = c.before.number.ensures ∙ ap number c.before.before.before.before.before.table_at.ensures in
-    table-stop c.before.before.before.before.before.before.before.before.before.before.args.text.now _ c.before.before.before.before.before.before.before.before.before.before.args.counts.now c.before.before.before.before.before.before.before.loop.counts c.before.before.before.before.before.before.before.loop.i c.before.before.before.before.before.before.before.loop.k c.before.before.before.before.before.before.before.loop.invariant.3 c.before.before.before.before.before.before.before.loop.invariant.0 c.before.before.before.before.before.before.loop-test.true
+    table_stop c.before.before.before.before.before.before.before.before.before.before.args.text.now _ c.before.before.before.before.before.before.before.before.before.before.args.counts.now c.before.before.before.before.before.before.before.loop.counts c.before.before.before.before.before.before.before.loop.i c.before.before.before.before.before.before.before.loop.k c.before.before.before.before.before.before.before.loop.invariant.3 c.before.before.before.before.before.before.before.loop.invariant.0 c.before.before.before.before.before.before.loop-test.true
     c.before.before.before.count-table.result counted (subst (λ m. m < c.before.before.before.count-table.result.count) most c.before.before.if1.true)
     _ (c.refused.ensures ∙ ap₂ (refuse 1) called most) c.before.before.before.before.before.before.before.loop.invariant.0 _
 
@@ -75,7 +75,7 @@ loop-again c =
       c.before.count-table.ensures.inside,
       omega arith,
       length-set c.before.before.before.before.before.loop.counts c.before.before.before.before.before.loop.k c.before.count-table.result.count ∙ c.before.before.before.before.before.loop.invariant.2,
-      table-next c.before.before.before.before.before.before.before.before.args.text.now _ c.before.before.before.before.before.before.before.before.args.counts.now c.before.before.before.before.before.loop.counts c.before.before.before.before.before.loop.i c.before.before.before.before.before.loop.k c.before.before.before.before.before.loop.invariant.3 c.before.before.before.before.before.loop.invariant.0 c.before.before.before.before.loop-test.true
+      table_next c.before.before.before.before.before.before.before.before.args.text.now _ c.before.before.before.before.before.before.before.before.args.counts.now c.before.before.before.before.before.loop.counts c.before.before.before.before.before.loop.i c.before.before.before.before.before.loop.k c.before.before.before.before.before.loop.invariant.3 c.before.before.before.before.before.loop.invariant.0 c.before.before.before.before.loop-test.true
           c.before.count-table.result counted (subst (λ m. c.before.count-table.result.count ≤ m) most c.if1.false),
     )
 

@@ -4,7 +4,7 @@ use mathlib.Core.Path.{refl}
 use lib.ListN.{replicate}
 use Rattle.tables.specs.Shape.{table_count}
 use Rattle.fileform.specs.Form.{head_count}
-use Rattle.fileread.proofs.Judging.{judged_heads, judged-tables, judged-whole}
+use Rattle.fileread.proofs.Judging.{judged_heads, judged_tables, judged_whole}
 use borrow.Author.Rules.{rules}
 use Rattle.fileread.proofs.judge.judge_text.Statement.{statement}
 use Rattle.fileread.proofs.judge.judge_text.Tie as tie
@@ -34,7 +34,7 @@ stopped-requires-2 c κs = search rules
 
 returns-2 : tie.Need-returns-2
 returns-2 c =
-    judged-tables c.before.before.before.before.before.before.before.before.before.before.before.before.before.before.args.text.now (replicate head_count 0) c.before.before.before.before.before.before.before.before.before.before.before.judge-heads.result c.before.before.before.before.before.before.before.before.before.before.before.judge-heads.new.1.0 c.before.before.before.before.before.before.before.before.before.before.before.judge-heads.ensures
+    judged_tables c.before.before.before.before.before.before.before.before.before.before.before.before.before.before.args.text.now (replicate head_count 0) c.before.before.before.before.before.before.before.before.before.before.before.judge-heads.result c.before.before.before.before.before.before.before.before.before.before.before.judge-heads.new.1.0 c.before.before.before.before.before.before.before.before.before.before.before.judge-heads.ensures
     c.before.before.before.before.before.before.before.if1.false (replicate table_count 0) c.before.before.before.before.before.judge-tables.result c.before.before.before.before.before.judge-tables.new.1.1.0 c.before.before.before.before.before.judge-tables.ensures
     c.before.if2.true c.stopped2.result.held c.stopped2.result.body c.stopped2.ensures
 
@@ -60,7 +60,7 @@ found-requires c κs =
 
 returns-3 : tie.Need-returns-3
 returns-3 c =
-    judged-whole c.before.before.before.before.before.before.before.before.before.before.before.before.before.before.before.before.before.before.before.args.text.now (replicate head_count 0) c.before.before.before.before.before.before.before.before.before.before.before.before.before.before.before.before.judge-heads.result c.before.before.before.before.before.before.before.before.before.before.before.before.before.before.before.before.judge-heads.new.1.0 c.before.before.before.before.before.before.before.before.before.before.before.before.before.before.before.before.judge-heads.ensures
+    judged_whole c.before.before.before.before.before.before.before.before.before.before.before.before.before.before.before.before.before.before.before.args.text.now (replicate head_count 0) c.before.before.before.before.before.before.before.before.before.before.before.before.before.before.before.before.judge-heads.result c.before.before.before.before.before.before.before.before.before.before.before.before.before.before.before.before.judge-heads.new.1.0 c.before.before.before.before.before.before.before.before.before.before.before.before.before.before.before.before.judge-heads.ensures
     c.before.before.before.before.before.before.before.before.before.before.before.before.if1.false (replicate table_count 0) c.before.before.before.before.before.before.before.before.before.before.judge-tables.result c.before.before.before.before.before.before.before.before.before.before.judge-tables.new.1.1.0 c.before.before.before.before.before.before.before.before.before.before.judge-tables.ensures
     c.before.before.before.before.before.before.if2.false refl c.before.before.before.before.sum-capped.result c.before.before.before.before.sum-capped.ensures c.before.before.before.judge-end.result c.before.before.before.judge-end.ensures
     refl c.found.result c.found.ensures

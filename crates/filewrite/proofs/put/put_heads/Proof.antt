@@ -5,7 +5,7 @@ use Prim.Native.Nat.{◌+◌, ◌-◌, ◌≤◌}
 use lib.ListN.{length}
 use Rattle.text.specs.Places.{PutAt}
 use Rattle.fileform.specs.Form.{head_count}
-use Rattle.filewrite.proofs.Pieces.{Putting, putting_start, putting-fits, putting-next, putting_end, heads_from, head_piece, heads_end}
+use Rattle.filewrite.proofs.Pieces.{Putting, putting_start, putting_fits, putting_next, putting_end, heads_from, head_piece, heads_end}
 use borrow.Author.Rules.{rules}
 use Rattle.filewrite.proofs.put.put_heads.Statement.{statement}
 use Rattle.filewrite.proofs.put.put_heads.Tie as tie
@@ -36,7 +36,7 @@ put-head-requires c κs =
     let l = c.before.before in
     let numbers = l.before.Numbers-of.result in
     let there = c.before.loop-test.true in
-    (there, putting-fits l.loop.invariant (head_piece numbers l.loop.k there))
+    (there, putting_fits l.loop.invariant (head_piece numbers l.loop.k there))
 
 add-k : tie.Need-overflow-add-k invariant-loop decreases-loop
 add-k c = search rules
@@ -50,7 +50,7 @@ loop-again c =
     let numbers = l.before.Numbers-of.result in
     let there = c.before.before.before.before.loop-test.true in
     let t = c.before.before.put-head in
-    putting-next l.loop.invariant (head_piece numbers l.loop.k there) there t.result _ t.ensures t.auto.1.1.0
+    putting_next l.loop.invariant (head_piece numbers l.loop.k there) there t.result _ t.ensures t.auto.1.1.0
 
 same_length : tie.Need-same-length invariant-loop decreases-loop
 same_length c = c.before.loop.invariant.same

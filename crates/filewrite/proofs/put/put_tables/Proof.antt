@@ -5,7 +5,7 @@ use mathlib.Core.List.{[], map}
 use Prim.Native.Nat.{◌-◌}
 use lib.ListN.{get_or-map}
 use Rattle.tables.specs.Shape.{table_count, tables_from}
-use Rattle.filewrite.proofs.Pieces.{Putting, putting_start, putting-fits, putting-next, putting_end, text_from, table_piece, tables_end}
+use Rattle.filewrite.proofs.Pieces.{Putting, putting_start, putting_fits, putting_next, putting_end, text_from, table_piece, tables_end}
 use borrow.Author.Rules.{rules}
 use Rattle.filewrite.proofs.put.put_tables.Statement.{statement}
 use Rattle.filewrite.proofs.put.put_tables.Tie as tie
@@ -34,7 +34,7 @@ put-table-requires c κs =
     let a = l.before.before.args in
     let called = c.before.table_at in
     let held = sym (get_or-map (λ x. x.now) a.t1 l.loop.k (record { ref_ptr = (0, 0); now = [] })) in
-    putting-fits l.loop.invariant (table_piece (map (λ x. x.now) a.t1) l.loop.k c.before.before.before.loop-test.true called.result _ called.ensures held)
+    putting_fits l.loop.invariant (table_piece (map (λ x. x.now) a.t1) l.loop.k c.before.before.before.loop-test.true called.result _ called.ensures held)
 
 add-k : tie.Need-overflow-add-k invariant-loop decreases-loop
 add-k c = search rules
@@ -50,7 +50,7 @@ loop-again c =
     let there = c.before.before.before.before.before.before.loop-test.true in
     let called = c.before.before.before.before.table_at in
     let held = sym (get_or-map (λ x. x.now) a.t1 l.loop.k (record { ref_ptr = (0, 0); now = [] })) in
-    putting-next l.loop.invariant (table_piece (map (λ x. x.now) a.t1) l.loop.k there called.result _ called.ensures held) there t.result _ t.ensures t.auto.1.1.0
+    putting_next l.loop.invariant (table_piece (map (λ x. x.now) a.t1) l.loop.k there called.result _ called.ensures held) there t.result _ t.ensures t.auto.1.1.0
 
 same_length : tie.Need-same-length invariant-loop decreases-loop
 same_length c = c.before.loop.invariant.same

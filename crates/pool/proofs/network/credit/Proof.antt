@@ -14,7 +14,7 @@ use Rattle.groups.specs.Groups.{Pots, pots_of}
 use Rattle.tables.specs.Shape.{tables_from}
 use Rattle.columns.proofs.Fronts.{stored_front}
 use Rattle.columns.proofs.Blocks.{columns_long}
-use Rattle.pool.proofs.Crediting.{Lists, together, half_long, second_addable, network-divided, network_credited}
+use Rattle.pool.proofs.Crediting.{Lists, together, half_long, second_addable, network_divided, network_credited}
 use Rattle.pool.proofs.network.credit.Statement.{statement}
 use Rattle.pool.proofs.network.credit.Tie as tie
 
@@ -165,9 +165,9 @@ returns : tie.Need-returns
 returns c =
     let s = c.before.before.before.before.before.before.before.before.before.before.before.before.before.before.before.before in
     network_credited (lists s) c.before.before.before.before.before.before.before.sum-in.ensures
-    (network-divided (start_of s).requires.1 (divided s) c.before.before.before.before.before.before.before.before.before.before.each-group.ensures c.before.before.before.before.divide-all.ensures
+    (network_divided (start_of s).requires.1 (divided s) c.before.before.before.before.before.before.before.before.before.before.each-group.ensures c.before.before.before.before.divide-all.ensures
     (c.before.refused.ensures ∙ ap (refuse c.before.before.before.before.divide-all.result DIVISIONS) (lists s).numbers_front.long)
-    c.in-turn.ensures)
+    c.in_turn.ensures)
 
 same_length : tie.Need-same-length
 same_length c = (returns c).long

@@ -4,7 +4,7 @@ use Prim.Native.Nat.{◌≤◌, ◌<◌}
 use native.Mathlib.Nat.{pos_of_ne-zero}
 use lib.ListN.{length, drop}
 use Rattle.text.specs.Lines.{fields}
-use Rattle.text.proofs.Places.{Partly, partly_start, fields-missing, fields-next, fields_end}
+use Rattle.text.proofs.Places.{Partly, partly_start, fields_missing, fields_next, fields_end}
 use borrow.Author.Rules.{rules}
 use Rattle.text.proofs.line.fields_at.Statement.{statement}
 use Rattle.text.proofs.line.fields_at.Tie as tie
@@ -27,7 +27,7 @@ field-at-requires c κs = search rules
 
 returns : tie.Need-returns invariant-loop decreases-loop
 returns c =
-    fields-missing c.before.before.before.before.before.args.text.now _ c.before.before.before.loop.i c.before.before.before.loop.left c.before.before.before.loop.invariant.2
+    fields_missing c.before.before.before.before.before.args.text.now _ c.before.before.before.loop.i c.before.before.before.loop.left c.before.before.before.loop.invariant.2
     c.before.before.loop-test.true c.before.field_at.result c.before.field_at.ensures c.if1.true
 
 loop-less : tie.Need-loop-smaller invariant-loop decreases-loop
@@ -37,7 +37,7 @@ loop-again : tie.Need-loop-preserved invariant-loop decreases-loop
 loop-again c = (
   pos_of_ne-zero c.if1.false,
   c.before.field_at.ensures.inside,
-  fields-next c.before.before.before.before.before.args.text.now _ c.before.before.before.loop.i c.before.before.before.loop.left c.before.before.before.loop.invariant.2
+  fields_next c.before.before.before.before.before.args.text.now _ c.before.before.before.loop.i c.before.before.before.loop.left c.before.before.before.loop.invariant.2
       c.before.before.loop-test.true c.before.field_at.result c.before.field_at.ensures c.if1.false,
 )
 

@@ -12,15 +12,15 @@ key-at-requires c κs = search rules
 returns : tie.Need-returns
 returns c =
     let a = c.before.before.before.before.args in
-    line_unkeyed a.key.now a.width a.text.now a.at c.before.key-at.result c.before.key-at.ensures c.if1.true
+    line_unkeyed a.key.now a.width a.text.now a.at c.before.key_at.result c.before.key_at.ensures c.if1.true
 
 fields-at-requires : tie.Need-fields-at-requires
-fields-at-requires c κs = (pos_of_ne-zero c.if1.false, c.before.key-at.ensures.inside)
+fields-at-requires c κs = (pos_of_ne-zero c.if1.false, c.before.key_at.ensures.inside)
 
 returns-2 : tie.Need-returns-2
 returns-2 c =
     let a = c.before.before.before.before.before.args in
-    line_keyed a.key.now a.width a.text.now a.at c.before.before.key-at.result c.before.before.key-at.ensures c.before.if1.false
+    line_keyed a.key.now a.width a.text.now a.at c.before.before.key_at.result c.before.before.key_at.ensures c.before.if1.false
     c.fields_at.result c.fields_at.ensures
 
 pub line-at-spec : {M : Type 1} → statement M

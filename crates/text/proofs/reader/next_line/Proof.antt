@@ -44,7 +44,7 @@ use Rattle.text.specs.Places.{LineAt}
 use Rattle.text.specs.Readers.{Stepped, reached_of}
 use Rattle.text.specs.declared.reader.Reader.{Reader}
 use Rattle.text.proofs.Readers.{next_line_is}
-use Rattle.text.proofs.Calls.{machine, α, B, at_fits, typed, ReaderAt, to_made, Made, said-made, goes-made, Step, to_step, said-step, goes_step}
+use Rattle.text.proofs.Calls.{machine, α, B, at_fits, typed, ReaderAt, to_made, Made, said_made, goes_made, Step, to_step, said_step, goes_step}
 use Rattle.text.specs.contracts.reader.Reader as T
 use Rattle.text.proofs.reader.Reader.TheLaws as T'
 use Rattle.text.specs.contracts.reader.reader_at as reader_at
@@ -112,7 +112,7 @@ module _ {M : Type 1} {𝓤 : Ura M} (𝓛 : Logic 𝓤) (mem : Memory → SProp
       qed 𝓛 ((‵ (flft κ q) ⊛ ‵ (flft κ' q') ⊛ ‵ ftrue) ∷ ‵ (owns (ShrSlice (named 0) κ u8 ∷ usize ∷ ShrSlice (named 1) κ' u8 ∷ usize ∷ []) (s, (i, (x, (w, tt)))) at) ∷ []) ∵
       split ! $ move ! (2 ∷ []) $ fsplit ! $ move ! (1 ∷ []) $ fsplit ! $ drop ! $ fsplit ! $ move ! (1 ∷ []) $ drop ! $
       -- [what the key owns; what the text owns; the text's token; the key's token]
-      move ! (1 ∷ 2 ∷ []) $ use2 𝓛 (raw ((ReaderAt 𝓛 mem run).pre making) ⊛ ‵ OwnText) (goes-made 𝓛 mem run κ q s i i-fits) $ split ! $ frame ! $ frame ! $ frame ! $ done !
+      move ! (1 ∷ 2 ∷ []) $ use2 𝓛 (raw ((ReaderAt 𝓛 mem run).pre making) ⊛ ‵ OwnText) (goes_made 𝓛 mem run κ q s i i-fits) $ split ! $ frame ! $ frame ! $ frame ! $ done !
 
   steps : (r : Reader) (u : Val) → ent 𝓤 (⋆ 𝓛 (‵ ((B κ).own_val r (u ∷ [])) ∷ (‵ (flft κ q) ⊛ ‵ ftrue) ∷ Kept ∷ [])) (sep 𝓤 ((Step 𝓛 mem run).pre (stepping r u)) (sep 𝓤 (sem 𝓛 OwnKey) (sem 𝓛 OwnText)))
   steps r u =
@@ -151,13 +151,13 @@ module _ {M : Type 1} {𝓤 : Ura M} (𝓛 : Logic 𝓤) (mem : Memory → SProp
         move ! (16 ∷ []) $ use1 𝓛 (raw ((ReaderAt 𝓛 mem run).pre making) ⊛ Kept) makes $ split ! $
         calls_at ! fm (ReaderAt 𝓛 mem run) known-made making (and_then ! (load ! (from ! (stop !)) (look ! 14 refl)) (and_then ! (load ! (from ! (stop !)) (look ! 12 refl)) (no_more !))) (λ u.
         use1 𝓛 (later (some (λ (r : Reader). ((‵ (flft κ q) ⊛ ‵ ftrue) ⊛ ‵ ((B κ).own_val r (u ∷ []))) ⊛ raw (ensured 𝓛 reader_at.ended (reader_at.clauses 𝓛 mem run) (κ, tt) (s, (i, tt)) tt r)))) (id⊢ 𝓤 _) $ await ! tt $ pick ! (λ r.
-        split ! $ move ! (1 ∷ []) $ use1 𝓛 (raw (fact 𝓤 (Made s i r))) (said-made 𝓛 mem run κ q s i r) $ heard ! (Made s i r) (λ e. split ! $ move ! (1 ∷ []) $
+        split ! $ move ! (1 ∷ []) $ use1 𝓛 (raw (fact 𝓤 (Made s i r))) (said_made 𝓛 mem run κ q s i r) $ heard ! (Made s i r) (λ e. split ! $ move ! (1 ∷ []) $
         -- [what the reader owns; the text's token; what the text and the key own, and the key's token; _7; …; _6; …; …]
         peeks ! (B κ) (Is (B κ)) (shows 𝓛 (B κ)) r (u ∷ []) (λ is. land ! (from ! (stop !)) (init ! 5 refl (typed 𝓛 κ r u is)) $
         use3 𝓛 (raw ((Step 𝓛 mem run).pre (stepping r u)) ⊛ ‵ OwnKey ⊛ ‵ OwnText) (steps r u) $ split ! $
         calls_at ! fm (Step 𝓛 mem run) Known-step (stepping r u) (and_then ! (load ! (from ! (stop !)) (look ! 4 refl)) (and_then ! (load ! (from ! (stop !)) (look ! 10 refl)) (and_then ! (load ! (from ! (stop !)) (look ! 8 refl)) (no_more !)))) (λ u'.
         use1 𝓛 (later (some (λ (t : Reader). ((‵ (flft κ q) ⊛ ‵ (flft κ' q') ⊛ ‵ ftrue) ⊛ ‵ ((B κ).own_val t (u' ∷ []))) ⊛ raw (ensured 𝓛 step.ended (step.clauses 𝓛 mem run) κs (r, (x, (w, tt))) tt t)))) (id⊢ 𝓤 _) $ await ! tt $ pick ! (λ t.
-        split ! $ move ! (1 ∷ []) $ use1 𝓛 (raw (fact 𝓤 (Stepped r x.now w t))) (said-step 𝓛 mem run κ κ' q q' x w r u t) $ heard ! (Stepped r x.now w t) (λ e'. split ! $ move ! (1 ∷ []) $
+        split ! $ move ! (1 ∷ []) $ use1 𝓛 (raw (fact 𝓤 (Stepped r x.now w t))) (said_step 𝓛 mem run κ κ' q q' x w r u t) $ heard ! (Stepped r x.now w t) (λ e'. split ! $ move ! (1 ∷ []) $
         -- [what the reader that stepped owns; the tokens; what the key and the text own; _7; …; _6; …; _5; …; …]
         peeks ! (B κ) (Is (B κ)) (shows 𝓛 (B κ)) t (u' ∷ []) (λ is'. land ! (from ! (stop !)) (init ! 7 refl (typed 𝓛 κ t u' is')) $
         rewrite ! 7 (λ (y : Val). ‵ (fat full_share (T'.mir erased) l₅ 0 y)) (ap only (LL.tells (T.the_type (α κ)) (T'.the_laws (α κ)) t _ is')) refl $

@@ -42,7 +42,7 @@ use Rattle.text.specs.Readers.{Stepped, EndsAt}
 use Rattle.text.specs.declared.reader.Reader.{Reader}
 use Rattle.text.specs.declared.reader.Ends.{Ends}
 use Rattle.text.proofs.Readers.{two_lines_are}
-use Rattle.text.proofs.Calls.{machine, α, B, at_fits, typed, ReaderAt, to_made, Made, said-made, goes-made, Step, to_step, said-step, goes_step}
+use Rattle.text.proofs.Calls.{machine, α, B, at_fits, typed, ReaderAt, to_made, Made, said_made, goes_made, Step, to_step, said_step, goes_step}
 use Rattle.text.specs.contracts.reader.Reader as T
 use Rattle.text.proofs.reader.Reader.TheLaws as T'
 use Rattle.text.specs.contracts.reader.Ends as E
@@ -122,7 +122,7 @@ module _ {M : Type 1} {𝓤 : Ura M} (𝓛 : Logic 𝓤) (mem : Memory → SProp
       qed 𝓛 ((‵ (flft κ q) ⊛ ‵ (flft κ' q') ⊛ ‵ (flft κ'' q'') ⊛ ‵ ftrue) ∷ ‵ (owns (ShrSlice (named 0) κ u8 ∷ usize ∷ ShrSlice (named 1) κ' u8 ∷ ShrSlice (named 2) κ'' u8 ∷ usize ∷ []) (s, (i, (x, (y, (w, tt))))) at) ∷ []) ∵
       split ! $ move ! (2 ∷ []) $ fsplit ! $ move ! (1 ∷ []) $ fsplit ! $ drop ! $ fsplit ! $ move ! (1 ∷ []) $ fsplit ! $ move ! (1 ∷ []) $ drop ! $
       -- [what the second key owns; the first; the text; the text's token; the keys' tokens]
-      move ! (2 ∷ 3 ∷ []) $ use2 𝓛 (raw ((ReaderAt 𝓛 mem run).pre making) ⊛ ‵ OwnText) (goes-made 𝓛 mem run κ q s i i-fits) $ split ! $ frame ! $ frame ! $ frame ! $ frame ! $ done !
+      move ! (2 ∷ 3 ∷ []) $ use2 𝓛 (raw ((ReaderAt 𝓛 mem run).pre making) ⊛ ‵ OwnText) (goes_made 𝓛 mem run κ q s i i-fits) $ split ! $ frame ! $ frame ! $ frame ! $ frame ! $ done !
 
   steps_first : (r : Reader) (u : Val) → ent 𝓤 (⋆ 𝓛 (‵ ((B κ).own_val r (u ∷ [])) ∷ (‵ (flft κ q) ⊛ ‵ ftrue) ∷ Kept ∷ [])) (sep 𝓤 ((Step 𝓛 mem run).pre (first r u)) (mean 𝓛 Kept-first))
   steps_first r u =
@@ -167,20 +167,20 @@ module _ {M : Type 1} {𝓤 : Ura M} (𝓛 : Logic 𝓤) (mem : Memory → SProp
         move ! (24 ∷ []) $ use1 𝓛 (raw ((ReaderAt 𝓛 mem run).pre making) ⊛ Kept) makes $ split ! $
         calls_at ! fm (ReaderAt 𝓛 mem run) known-made making (and_then ! (load ! (from ! (stop !)) (look ! 22 refl)) (and_then ! (load ! (from ! (stop !)) (look ! 20 refl)) (no_more !))) (λ u.
         use1 𝓛 (later (some (λ (r : Reader). ((‵ (flft κ q) ⊛ ‵ ftrue) ⊛ ‵ ((B κ).own_val r (u ∷ []))) ⊛ raw (ensured 𝓛 reader_at.ended (reader_at.clauses 𝓛 mem run) (κ, tt) (s, (i, tt)) tt r)))) (id⊢ 𝓤 _) $ await ! tt $ pick ! (λ r.
-        split ! $ move ! (1 ∷ []) $ use1 𝓛 (raw (fact 𝓤 (Made s i r))) (said-made 𝓛 mem run κ q s i r) $ heard ! (Made s i r) (λ e. split ! $ move ! (1 ∷ []) $
+        split ! $ move ! (1 ∷ []) $ use1 𝓛 (raw (fact 𝓤 (Made s i r))) (said_made 𝓛 mem run κ q s i r) $ heard ! (Made s i r) (λ e. split ! $ move ! (1 ∷ []) $
         -- [what the reader owns; the text's token; what is kept; _11; …]
         peeks ! (B κ) (Is (B κ)) (shows 𝓛 (B κ)) r (u ∷ []) (λ is. land ! (from ! (stop !)) (init ! 9 refl (typed 𝓛 κ r u is)) $
         use3 𝓛 (raw ((Step 𝓛 mem run).pre (first r u)) ⊛ Kept-first) (steps_first r u) $ split ! $
         calls_at ! fm (Step 𝓛 mem run) Known-step (first r u) (and_then ! (load ! (from ! (stop !)) (look ! 8 refl)) (and_then ! (load ! (from ! (stop !)) (look ! 18 refl)) (and_then ! (load ! (from ! (stop !)) (look ! 14 refl)) (no_more !)))) (λ u'.
         use1 𝓛 (later (some (λ (t : Reader). ((‵ (flft κ q) ⊛ ‵ (flft κ' q') ⊛ ‵ ftrue) ⊛ ‵ ((B κ).own_val t (u' ∷ []))) ⊛ raw (ensured 𝓛 step.ended (step.clauses 𝓛 mem run) (κ, (κ', tt)) (r, (x, (w, tt))) tt t)))) (id⊢ 𝓤 _) $ await ! tt $ pick ! (λ t.
-        split ! $ move ! (1 ∷ []) $ use1 𝓛 (raw (fact 𝓤 (Stepped r x.now w t))) (said-step 𝓛 mem run κ κ' q q' x w r u t) $ heard ! (Stepped r x.now w t) (λ e'. split ! $ move ! (1 ∷ []) $
+        split ! $ move ! (1 ∷ []) $ use1 𝓛 (raw (fact 𝓤 (Stepped r x.now w t))) (said_step 𝓛 mem run κ κ' q q' x w r u t) $ heard ! (Stepped r x.now w t) (λ e'. split ! $ move ! (1 ∷ []) $
         -- [what the reader behind the first line owns; the tokens; what is kept; _11; …]: it is copied, and steps on
         peeks ! (B κ) (Is (B κ)) (shows 𝓛 (B κ)) t (u' ∷ []) (λ is'. land ! (from ! (stop !)) (init ! 13 refl (typed 𝓛 κ t u' is')) $
         assigns ! (of_opd ! (load ! (from ! (stop !)) (look ! 13 refl))) (from ! (stop !)) (init ! 7 refl (typed 𝓛 κ t u' is')) $
         use3 𝓛 (raw ((Step 𝓛 mem run).pre (second t u')) ⊛ Kept-second) (steps-second t u') $ split ! $
         calls_at ! fm (Step 𝓛 mem run) Known-step (second t u') (and_then ! (load ! (from ! (stop !)) (look ! 6 refl)) (and_then ! (load ! (from ! (stop !)) (look ! 16 refl)) (and_then ! (load ! (from ! (stop !)) (look ! 14 refl)) (no_more !)))) (λ u''.
         use1 𝓛 (later (some (λ (d : Reader). ((‵ (flft κ q) ⊛ ‵ (flft κ'' q'') ⊛ ‵ ftrue) ⊛ ‵ ((B κ).own_val d (u'' ∷ []))) ⊛ raw (ensured 𝓛 step.ended (step.clauses 𝓛 mem run) (κ, (κ'', tt)) (t, (y, (w, tt))) tt d)))) (id⊢ 𝓤 _) $ await ! tt $ pick ! (λ d.
-        split ! $ move ! (1 ∷ []) $ use1 𝓛 (raw (fact 𝓤 (Stepped t y.now w d))) (said-step 𝓛 mem run κ κ'' q q'' y w t u' d) $ heard ! (Stepped t y.now w d) (λ e''. split ! $ move ! (1 ∷ []) $
+        split ! $ move ! (1 ∷ []) $ use1 𝓛 (raw (fact 𝓤 (Stepped t y.now w d))) (said_step 𝓛 mem run κ κ'' q q'' y w t u' d) $ heard ! (Stepped t y.now w d) (λ e''. split ! $ move ! (1 ∷ []) $
         -- [what the reader behind the second line owns; the tokens; what is kept; _11; …]: the two offsets are the answer
         peeks ! (B κ) (Is (B κ)) (shows 𝓛 (B κ)) d (u'' ∷ []) (λ is''. land ! (from ! (stop !)) (init ! 11 refl (typed 𝓛 κ d u'' is'')) $
         rewrite ! 13 (λ (z : Val). ‵ (fat full_share (T'.mir erased) l₆ 0 z)) (ap only (LL.tells (T.the_type (α κ)) (T'.the_laws (α κ)) t _ is')) refl $

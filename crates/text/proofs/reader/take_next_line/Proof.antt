@@ -45,7 +45,7 @@ use Rattle.text.specs.Lines.{line}
 use Rattle.text.specs.Places.{FieldsTaken}
 use Rattle.text.specs.Readers.{TookOne}
 use Rattle.text.specs.declared.reader.Reader.{Reader}
-use Rattle.text.proofs.Calls.{machine, α, B, at_fits, typed, ReaderAt, to_made, Made, said-made, goes-made}
+use Rattle.text.proofs.Calls.{machine, α, B, at_fits, typed, ReaderAt, to_made, Made, said_made, goes_made}
 use Rattle.text.specs.contracts.reader.Reader as T
 use Rattle.text.proofs.reader.Reader.TheLaws as T'
 use Rattle.text.specs.contracts.reader.reader_at as reader_at
@@ -131,7 +131,7 @@ module _ {M : Type 1} {𝓤 : Ura M} (𝓛 : Logic 𝓤) (mem : Memory → SProp
       qed 𝓛 ((‵ (flft κ q) ⊛ ‵ (flft κ' q') ⊛ ‵ (flft κ'' q'') ⊛ ‵ ftrue) ∷ ‵ (owns (ShrSlice (named 0) κ u8 ∷ usize ∷ ShrSlice (named 1) κ' u8 ∷ usize ∷ MutSlice (named 2) κ'' u64 ∷ usize ∷ []) a at) ∷ []) ∵
       split ! $ move ! (2 ∷ []) $ fsplit ! $ move ! (1 ∷ []) $ fsplit ! $ drop ! $ fsplit ! $ move ! (1 ∷ []) $ fsplit ! $ drop ! $ fsplit ! $ move ! (1 ∷ []) $ drop ! $
       -- [what the words own; what the key owns; what the text owns; the text's token; the others]
-      move ! (2 ∷ 3 ∷ []) $ use2 𝓛 (raw ((ReaderAt 𝓛 mem run).pre making) ⊛ ‵ OwnText) (goes-made 𝓛 mem run κ q s i i-fits) $ split ! $ frame ! $ frame ! $ frame ! $ frame ! $ done !
+      move ! (2 ∷ 3 ∷ []) $ use2 𝓛 (raw ((ReaderAt 𝓛 mem run).pre making) ⊛ ‵ OwnText) (goes_made 𝓛 mem run κ q s i i-fits) $ split ! $ frame ! $ frame ! $ frame ! $ frame ! $ done !
 
   -- the call of `step_taking`, at the reader that was made, with the machine value u
   abbrev made : Reader
@@ -149,8 +149,8 @@ module _ {M : Type 1} {𝓤 : Ura M} (𝓛 : Logic 𝓤) (mem : Memory → SProp
   abbrev to_step : Val → (StepTaking 𝓛 mem run).Ghost
   to_step u = ((κs, qs, tt, args, passed u), tt)
 
-  asked-step : There → (u : Val) → ent 𝓤 (on_entry 𝓛 step-taking.signature κs qs args (passed u)) ((StepTaking 𝓛 mem run).pre (to_step u))
-  asked-step there u = qed 𝓛 ((‵ (flft κ q) ⊛ ‵ (flft κ' q') ⊛ ‵ (flft κ'' q'') ⊛ ‵ ftrue) ∷ ‵ (owns (B κ ∷ ShrSlice (named 1) κ' u8 ∷ usize ∷ MutSlice (named 2) κ'' u64 ∷ usize ∷ []) args (passed u)) ∷ []) ∵ says ! there $ frame ! $ done !
+  asked_step : There → (u : Val) → ent 𝓤 (on_entry 𝓛 step-taking.signature κs qs args (passed u)) ((StepTaking 𝓛 mem run).pre (to_step u))
+  asked_step there u = qed 𝓛 ((‵ (flft κ q) ⊛ ‵ (flft κ' q') ⊛ ‵ (flft κ'' q'') ⊛ ‵ ftrue) ∷ ‵ (owns (B κ ∷ ShrSlice (named 1) κ' u8 ∷ usize ∷ MutSlice (named 2) κ'' u64 ∷ usize ∷ []) args (passed u)) ∷ []) ∵ says ! there $ frame ! $ done !
 
   steps : There → (u : Val) → ent 𝓤 (⋆ 𝓛 (‵ ((B κ).own_val made (u ∷ [])) ∷ (‵ (flft κ q) ⊛ ‵ ftrue) ∷ Kept ∷ [])) (sep 𝓤 ((StepTaking 𝓛 mem run).pre (to_step u)) (mean 𝓛 Kept-step))
   steps there u =
@@ -161,7 +161,7 @@ module _ {M : Type 1} {𝓤 : Ura M} (𝓛 : Logic 𝓤) (mem : Memory → SProp
       nothing ! $ owned ! usize (Is usize) (uint__makes 𝓛 w64) p _ (refl, p-fits) $ fjoin ! $ move ! (4 ∷ 0 ∷ []) $ fjoin ! $
       owned ! usize (Is usize) (uint__makes 𝓛 w64) w _ (refl, w__fits) $ fjoin ! $ move ! (1 ∷ 0 ∷ []) $ fjoin ! $ move ! (4 ∷ 0 ∷ []) $ fjoin ! $
       -- [what `step_taking` takes; what the key owns; the other tokens; what the text owns; the text's token]
-      move ! (4 ∷ []) $ split ! $ move ! (0 ∷ 4 ∷ []) $ join ! $ move ! (0 ∷ 2 ∷ []) $ use2 𝓛 (raw ((StepTaking 𝓛 mem run).pre (to_step u))) (asked-step there u) $ frame ! $ drop ! $ frame ! $ done !
+      move ! (4 ∷ []) $ split ! $ move ! (0 ∷ 4 ∷ []) $ join ! $ move ! (0 ∷ 2 ∷ []) $ use2 𝓛 (raw ((StepTaking 𝓛 mem run).pre (to_step u))) (asked_step there u) $ frame ! $ drop ! $ frame ! $ done !
 
   abbrev Took : Reader → List ℕ → Type 0
   Took t zs = TookOne made x.now w ys p t zs
@@ -191,7 +191,7 @@ module _ {M : Type 1} {𝓤 : Ura M} (𝓛 : Logic 𝓤) (mem : Memory → SProp
         move ! (22 ∷ []) $ use1 𝓛 (raw ((ReaderAt 𝓛 mem run).pre making) ⊛ Kept) makes $ split ! $
         calls_at ! fm (ReaderAt 𝓛 mem run) known-made making (and_then ! (load ! (from ! (stop !)) (look ! 20 refl)) (and_then ! (load ! (from ! (stop !)) (look ! 18 refl)) (no_more !))) (λ u.
         use1 𝓛 (later (some (λ (r : Reader). ((‵ (flft κ q) ⊛ ‵ ftrue) ⊛ ‵ ((B κ).own_val r (u ∷ []))) ⊛ raw (ensured 𝓛 reader_at.ended (reader_at.clauses 𝓛 mem run) (κ, tt) (s, (i, tt)) tt r)))) (id⊢ 𝓤 _) $ await ! tt $ pick ! (λ r.
-        split ! $ move ! (1 ∷ []) $ use1 𝓛 (raw (fact 𝓤 (Made s i r))) (said-made 𝓛 mem run κ q s i r) $ heard ! (Made s i r) (λ e. split ! $ rewrite ! 1 (λ (h : Reader). ‵ ((B κ).own_val h (u ∷ []))) (λ j. record { text = e.0 j; at = e.1 j }) refl $ move ! (1 ∷ []) $
+        split ! $ move ! (1 ∷ []) $ use1 𝓛 (raw (fact 𝓤 (Made s i r))) (said_made 𝓛 mem run κ q s i r) $ heard ! (Made s i r) (λ e. split ! $ rewrite ! 1 (λ (h : Reader). ‵ ((B κ).own_val h (u ∷ []))) (λ j. record { text = e.0 j; at = e.1 j }) refl $ move ! (1 ∷ []) $
         -- [what the reader owns; the text's token; what is kept; _10; …]
         peeks ! (B κ) (Is (B κ)) (shows 𝓛 (B κ)) made (u ∷ []) (λ is. land ! (from ! (stop !)) (init ! 7 refl (typed 𝓛 κ made u is)) $
         assigns ! (addr ! (from ! (fld ! refl (hop ! (look_in ! 13 (sub ! 0 refl (whole !))) (stop !))))) (from ! (stop !)) (init ! 5 refl (tt, tt)) $
