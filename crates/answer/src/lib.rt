@@ -1,10 +1,12 @@
 // What every call answers: a number, a table and a row, all zero where the call is accepted, and the ten refusals and the
 // tables by name. Looks are taken in turn, and the first one that finds a fault gives the answer: `look` and `in_turn` are what
 // every judgement of rows, tables and divisions is made of.
+#![tactic(auto)]
+
 ghost use Rattle.std.specs.Prelude.{◌≡◌};
 ghost use Rattle.answer.specs.Turns.{look, refuse, ◌then◌};
 
-#[derive(Drop)]
+#[derive(Clone, Copy)]
 pub struct Answer {
     pub number: u64,
     pub table: u64,

@@ -94,7 +94,7 @@ fn cut_rest(
 ) -> u64
     requires base { Base pot weights.now whole }
     requires room { Room weights.now out.old keys.old }
-    requires from_in_bounds { from ≤ length weights.now }
+    requires from_within { from ≤ length weights.now }
     ensures { Cut pot weights.now whole from (length weights.now) out.old out.new keys.old keys.new result }
 {
     let mut given: u64 = 0;

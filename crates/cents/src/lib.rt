@@ -1,6 +1,8 @@
 // Dealing out a pot in whole cents, by weights that are parts of a whole. Each weight's part of the pot is first cut down to whole
 // cents, and the cents left over go one each to the largest remainders, lower position first. Here stands the work: what a division
 // is and when it is refused stands in `division`.
+#![tactic(auto)]
+
 ghost use Rattle.std.specs.Prelude.{◌≡◌, ◌≤◌, length};
 ghost use Rattle.lists.specs.Entries.{put};
 ghost use Rattle.cents.specs.Dealt.{places, Base, dealt};

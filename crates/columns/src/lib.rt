@@ -1,6 +1,8 @@
 // Columns of words. A column of one of a month's tables is copied here, or added up for a number or for each of a table's numbers,
 // into words that the caller lends. Columns of one length that lie one behind the other, lent as one slice, are a block:
 // `specs/Blocks.antt` says what its columns are, and `proofs/Blocks.antt` what lending some of them leaves in the others.
+#![tactic(auto)]
+
 ghost use Rattle.std.specs.Prelude.{◌≡◌, map, ◌≤◌, ◌<◌, length};
 ghost use Rattle.lists.specs.Entries.{put};
 ghost use Rattle.tables.specs.Shape.{width, tables_from};
@@ -68,7 +70,7 @@ pub fn sums_of<'a>(
     out: &mut [u64],
 )
     requires column_bound { (column < width table) × SumFits (rows_of (tables_from (map (λ x. x.now) tables)) table) (entry_of (tables_from (map (λ x. x.now) tables)) table column) }
-    requires named_in_bounds { rows_of (tables_from (map (λ x. x.now) tables)) named ≤ length out.old }
+    requires room_for_rows { rows_of (tables_from (map (λ x. x.now) tables)) named ≤ length out.old }
     ensures { out.new ≡ put (rows_of (tables_from (map (λ x. x.now) tables.entry)) named) (λ i. sum_of (tables_from (map (λ x. x.now) tables.entry)) table column (entry_of (tables_from (map (λ x. x.now) tables.entry)) named 0 i)) out.old }
 {
     let count = rows_of(tables, named);
@@ -111,7 +113,7 @@ pub fn sums_in<'a>(
     out: &mut [u64],
 )
     requires column_bound { (column < width table) × Summable (rows_of (tables_from (map (λ x. x.now) tables)) table) values.now }
-    requires named_in_bounds { rows_of (tables_from (map (λ x. x.now) tables)) named ≤ length out.old }
+    requires room_for_rows { rows_of (tables_from (map (λ x. x.now) tables)) named ≤ length out.old }
     ensures { out.new ≡ put (rows_of (tables_from (map (λ x. x.now) tables.entry)) named) (λ i. sum_in (tables_from (map (λ x. x.now) tables.entry)) table column values.now (entry_of (tables_from (map (λ x. x.now) tables.entry)) named 0 i)) out.old }
 {
     let count = rows_of(tables, named);

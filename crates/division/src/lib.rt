@@ -1,6 +1,8 @@
 // Dividing a pot by weights. Every share is first cut down to whole cents, and the cents left over go one each to the largest
 // fractions cut off, lower position first: the work is done in `cents`. `specs/` says what is right, `proofs/Promises.antt` what
 // follows from it, and `proofs/Laws.antt` what the crates above may cite.
+#![tactic(auto)]
+
 ghost use Rattle.std.specs.Prelude.{◌≡◌, ◌≤◌, length};
 ghost use Rattle.lists.specs.Sums.{total};
 ghost use Rattle.lists.specs.Entries.{put};

@@ -1,6 +1,8 @@
 // Dividing a pot among the members of a group, a zone's owners or a zone's accounts, and adding the amounts to a column of words;
 // and one such division for each group in turn. A group is the whole list of members with weight 0 for all others, so that an
 // amount goes straight to its member's word. `specs/` says what each member has, `proofs/Laws.antt` what follows from it.
+#![tactic(auto)]
+
 ghost use Rattle.std.specs.Prelude.{◌≡◌, ◌+◌, ◌≤◌, ◌<◌, ◌^◌, length};
 ghost use Rattle.lists.specs.Sums.{at};
 ghost use Rattle.groups.specs.Columns.{Addable, Added};

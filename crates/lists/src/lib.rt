@@ -1,5 +1,7 @@
 // What every crate shares: a sum that never wraps, a number where two others are the same, the smaller and the larger of two, and for
 // the proofs sums, counts and ranks over positions, and lists made entry by entry. `specs/` has the definitions and `proofs/` their laws.
+#![tactic(auto)]
+
 ghost use Rattle.std.specs.Prelude.{◌≡◌, min, max, eqb};
 ghost use Rattle.lists.specs.Sums.{total, when};
 

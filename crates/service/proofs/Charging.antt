@@ -8,7 +8,7 @@ use Prim.Native.Nat.{ℕ, ◌+◌, ◌*◌, ◌≤◌, ◌<◌}
 use native.Mathlib.Nat.{le_trans, le_of_eq}
 use native.Mathlib.Numerals.{add-one}
 use native.Mathlib.Omega.{arith}
-use Rattle.lists.specs.Sums.{at, total}
+use Rattle.lists.specs.Sums.{total}
 use Rattle.lists.proofs.Sums.{last_or_below, sum_none, sum_suc, sum_le, sum_const}
 use Rattle.answer.specs.declared.Answer.{Answer}
 use Rattle.answer.specs.Numbers.{DIVISIONS}

@@ -2,6 +2,8 @@
 // side is shared among the zone's accounts by their zone parts, and the non-zone sides of all zones are one pot, shared among all
 // accounts by their non-zone parts. It knows no month: whoever calls it fills the parts. `specs/` says what each account is
 // charged, `proofs/Promises.antt` what follows from it.
+#![tactic(auto)]
+
 ghost use Rattle.std.specs.Prelude.{◌≡◌, [], ◌∷◌, ◌+◌, ◌*◌, ◌≤◌, ◌<◌, ◌^◌, length};
 ghost use Rattle.lists.specs.Sums.{at};
 ghost use Rattle.groups.specs.Groups.{among};

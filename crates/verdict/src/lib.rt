@@ -1,6 +1,8 @@
 // Judging a division that anyone hands in: its amounts pass where they add up to the pot and no other list with that sum lies
 // closer to the exact shares. Where fractions tie several lists are as close, and each of them passes. `specs/` says what is
 // right, `proofs/Promises.antt` what follows from it, and `proofs/Laws.antt` what the crates above may cite.
+#![tactic(auto)]
+
 ghost use Rattle.std.specs.Prelude.{◌≡◌};
 ghost use Rattle.verdict.specs.Check.{verdict};
 

@@ -1,0 +1,13 @@
+-- `groups::columns::store` meets its contract: each word passed holds its amount.
+-- Assumes nothing.
+use Prim.Native.Nat.{◌-◌}
+use lib.ListN.{length}
+use Rattle.lists.specs.Sums.{at}
+use Rattle.groups.proofs.Storing.{Stored}
+use Rattle.groups.proofs.columns.store.Given as goal
+
+abbrev pub invariant-loop-i : goal.invariant-loop-i
+invariant-loop-i l = Stored (length l.amounts) (at l.amounts) l.initial.column l.i l.column
+
+abbrev pub decreases-loop-i : goal.decreases-loop-i
+decreases-loop-i l = length l.amounts - l.i
