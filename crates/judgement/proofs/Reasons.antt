@@ -27,7 +27,7 @@ use Rattle.judgement.specs.Judgement.{head_looked, head_judged, rows_judged, jud
 use Rattle.judgement.specs.Good.{GoodTable, HeadInRange, Roomy, GoodFrame, GoodMonth}
 use Rattle.judgement.specs.Refused.{RowRefused, Refused, by_count, by_charges, by_credits, by_month, by_head, by_row}
 use Rattle.judgement.proofs.Keeping.{faulty, count_tested}
-use Rattle.judgement.proofs.Rulings.{head_range, row_fine, row_number, broken_number}
+use Rattle.judgement.proofs.Rulings.{head_range, row_fine, row_numbered, broken_number}
 use Rattle.judgement.proofs.Judging.{judged_why}
 
 -- a look passes where its rule holds, and stops where it does not
@@ -159,7 +159,7 @@ module _ (head : Head) (t : Tables) (lent_charges lent_credits : ℕ) where
       → rows_judged head.days t table ≡ refusal n (number table) i
   unfolding rows_judged
   row_stops table i n why d =
-      let its : row_of head.days t table i ≡ n = row_number head.days t table i n why.broken in
+      let its : row_of head.days t table i ≡ n = row_numbered head.days t table i n why.broken in
       first_at (number table) (row_of head.days t table) _ i why.is_row
       (λ j b. row_fine head.days t table j (why.earlier_rows j b)) (λ z. d (sym its ∙ z))
       ∙ ap (λ k. refuse k (number table) i) its

@@ -207,9 +207,9 @@ module _ (days : ℕ) (t : Tables) (table : Table) (i : ℕ) where
   numbered n r o l p (by_link e g h out) = rw (r.kept g, o.kept h, faulty l out) (sym e)
   numbered n r o l p (by_pair e g h k out) = rw (r.kept g, o.kept h, l.kept k, faulty p out) (sym e)
 
-  pub row_number : (n : ℕ) → FirstBroken days t table i n → row_of days t table i ≡ n
+  pub row_numbered : (n : ℕ) → FirstBroken days t table i n → row_of days t table i ≡ n
   unfolding row_of
-  row_number n = numbered n (range_tested days t table i) (order_tested t table i) (link_tested t table i) (pair_tested t table i)
+  row_numbered n = numbered n (range_tested days t table i) (order_tested t table i) (link_tested t table i) (pair_tested t table i)
 
   pub row_fine : GoodRow days t table i → row_of days t table i ≡ 0
   unfolding row_of row_number

@@ -1,6 +1,8 @@
 // The judgement of a month's input: whole rows and limits, room in the lent outputs, the head, then every table row by row, until
 // the first refusal. What is not refused is a month of the calendar with its input good, and that month is the answer.
 // `specs/Good.antt` says what a good month is without any order of looking, and what is accepted is exactly that.
+#![tactic(auto)]
+
 ghost use Rattle.std.specs.Prelude.{◌≡◌, map};
 ghost use Rattle.tables.specs.Shape.{tables_from};
 ghost use Rattle.judgement.specs.Judgement.{good_or, judged_as};

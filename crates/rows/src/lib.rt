@@ -1,5 +1,7 @@
 // What is looked at in one row of a table, and the row's number: 0 where it is fine, else that of the first fault that is there, in
 // the order RANGE, ORDER, LINK, PAIR. `ranges` has the ranges of each table's entries, `order` the order of its rows, `rules` the other two.
+#![tactic(auto)]
+
 ghost use Rattle.std.specs.Prelude.{◌≡◌, map, ◌<◌};
 ghost use Rattle.tables.specs.Shape.{rows, tables_from, words_of};
 ghost use Rattle.rows.specs.Rows.{outside, row_number, row_of};

@@ -2,6 +2,8 @@
 // them they ascend, how many rows it may have, and the limits of what stands in them. A table is named by a `Table`; its rows lie
 // end to end in one slice of words, and the tables that are only read go as one array of such slices, in the order of their numbers.
 // `columns` has each entry of a row by name, and `counts` judges whether tables are whole rows and no more than they may have.
+#![tactic(auto)]
+
 ghost use Rattle.std.specs.Prelude.{◌≡◌, map, ◌/◌};
 ghost use Rattle.tables.specs.Shape.{shape_of, table_at, place_of, number, width, key_columns, limit, tables_from, words_of};
 
@@ -10,7 +12,7 @@ pub mod counts;
 
 // The head of a month, plain numbers: which month, how many days it has, the non-zone rate, the rates of firm service by the day, the
 // week and the month, and the weekday of day 1, from Monday on.
-#[derive(Drop)]
+#[derive(Clone, Copy)]
 pub struct Head {
     pub month: u64,
     pub days: u64,
@@ -28,7 +30,7 @@ pub const HEADS: usize = 7;
 pub const TABLES: usize = 7;
 
 // One of tables 1 to 6, or table 10.
-#[derive(Drop)]
+#[derive(Clone, Copy)]
 pub enum Table {
     Zones,
     Owners,
@@ -133,7 +135,7 @@ pub fn table_at(place: usize) -> Table
 
 // What the paper's list says of a table: its place among the tables, its number in a refusal, how many entries a row has, how many of
 // them in front are the key by which the rows ascend, and how many rows there may be.
-#[derive(Drop)]
+#[derive(Clone, Copy)]
 pub struct Shape {
     pub place: usize,
     pub number: u64,
