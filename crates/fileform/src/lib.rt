@@ -3,6 +3,8 @@
 // list of keys and a table of kinds, each with what reads and writes its lines; `Reading` has what a text of a form holds or its first
 // refusal, `Writing` the text of what it holds. That each is the other's way back is proved here for every form whose keys differ; the
 // calls are in the crates above.
+#![tactic(auto)]
+
 pub mod head;
 pub mod keys;
 pub mod row;

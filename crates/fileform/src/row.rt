@@ -7,7 +7,7 @@ ghost use Rattle.fileform.specs.Writing.{rows_text};
 ghost use Rattle.fileform.specs.Calls.{CountedAt, RowsTaken};
 
 // How many rows were counted, and the offset behind them.
-#[derive(Drop)]
+#[derive(Clone, Copy)]
 pub struct Counted {
     pub count: usize,
     pub next: usize,

@@ -14,7 +14,7 @@ use fileform::{head, keys, table};
 use tables::{HEADS, Head, TABLES};
 
 // Where a walk stands: the refusal that stopped it, or acceptance, and the offset.
-#[derive(Drop)]
+#[derive(Clone, Copy)]
 struct Walk {
     answer: Answer,
     at: usize,
@@ -137,7 +137,7 @@ pub fn nothing_read(answer: Answer) -> Reading
 }
 
 // What the first walk finds: what the text holds, with its first refusal if there is one, and where the tables begin.
-#[derive(Drop)]
+#[derive(Clone, Copy)]
 pub struct FirstWalk {
     pub held: Reading,
     pub body: usize,

@@ -2,6 +2,8 @@
 // range. It walks the text twice: the first walk judges every line and counts the rows, the second stores them, so that a refused
 // file changes no lent word. `specs/Calls.antt` has what `read` answers and leaves, and `specs/Steps.antt` what its parts say among
 // themselves.
+#![tactic(auto)]
+
 ghost use Rattle.tables.specs.Shape.{tables_of};
 ghost use Rattle.fileread.specs.Calls.{Reads};
 
@@ -13,7 +15,7 @@ mod judge;
 mod room;
 
 // What `read` answers: the refusal or acceptance, the head, and each table's number of rows, by the table's place.
-#[derive(Drop)]
+#[derive(Clone, Copy)]
 pub struct Reading {
     pub answer: Answer,
     pub head: Head,

@@ -1,6 +1,8 @@
 // Writing a month file: `write` puts a month's head and tables together as a file's bytes. It knows the file's form alone and judges no
 // range. The text is measured before a byte is written, so that a refusal changes nothing. `specs/Calls.antt` has what `write`
 // answers and leaves, and `specs/Steps.antt` what its parts say among themselves.
+#![tactic(auto)]
+
 ghost use Rattle.std.specs.Prelude.{map};
 ghost use Rattle.tables.specs.Shape.{tables_from};
 ghost use Rattle.filewrite.specs.Calls.{Writes};
@@ -12,7 +14,7 @@ mod put;
 mod rows;
 
 // What `write` answers: the refusal or acceptance, and the text's length.
-#[derive(Drop)]
+#[derive(Clone, Copy)]
 pub struct Written {
     pub answer: Answer,
     pub length: usize,

@@ -5,5 +5,4 @@ pub mod Stores
 pub mod Places
 pub mod Pieces
 pub mod Readers
-pub mod Calls
 pub mod Unique

@@ -8,7 +8,6 @@ use Prim.Native.Nat.{ℕ, zero, suc, ◌<◌}
 use lib.Dec.{eqb, lit<}
 use lib.ListN.{length}
 use borrow.Author.Tests.{eq-eqb, ne_eqb, eqb-true, eqb-false}
-use Rattle.lists.specs.Sums.{at}
 use Rattle.lists.proofs.Ranks.{true_or_false}
 use Rattle.text.specs.Numbers.{Found, found, missing, is_digit, bound, Below, first_number, decimal}
 use Rattle.text.specs.Lines.{comma, equals, separator, behind, past, unlike, field, fields, line, fields_text, line_text}

@@ -2,6 +2,8 @@
 // offset in it and answers the offset behind what it read; one that writes is handed lent bytes and a place in them and answers the place behind
 // what it wrote. A `Reader` holds a text and an offset, and steps from one line to the next. `specs/` says what a number and a line
 // are, `proofs/` that each reads as it is written and only so.
+#![tactic(auto)]
+
 pub mod line;
 pub mod number;
 pub mod reader;

@@ -10,7 +10,7 @@ const NINE: u8 = b'9';
 const BASE: u64 = 10;
 
 // A number that was read, and the offset behind it; both are 0 where there is none.
-#[derive(Drop)]
+#[derive(Clone, Copy)]
 pub struct Number {
     pub value: u64,
     pub next: usize,

@@ -8,7 +8,7 @@ ghost use Rattle.text.specs.Readers.{Stepped, TookOne, EndsAt, reached_of};
 use crate::line;
 
 // A text, and where the reader stands in it.
-#[derive(Drop)]
+#[derive(Clone, Copy)]
 pub struct Reader<'a> {
     text: &'a [u8],
     at: usize,
@@ -69,7 +69,7 @@ pub fn next_line(text: &[u8], at: usize, key: &[u8], width: usize) -> usize
 }
 
 // Where a reader stood after one step and after two: behind the line, or where it stood before if the line doesn't fit.
-#[derive(Drop)]
+#[derive(Clone, Copy)]
 pub struct Ends {
     pub first: usize,
     pub second: usize,

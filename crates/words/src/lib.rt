@@ -1,6 +1,8 @@
 // Numbers as the phone app lends them: eight bytes each, low byte first. Whole words of bytes are read into numbers, and numbers
 // written over the first bytes of a lent slice. `specs/Words.antt` says which bytes a number has; that reading and writing undo
 // each other stands in `proofs/Digits.antt`.
+#![tactic(auto)]
+
 ghost use Rattle.std.specs.Prelude.{◌≡◌, ◌++◌, ◌+◌, ◌*◌, ◌/◌, ◌%◌, ◌≤◌, ◌<◌, length, drop};
 ghost use Rattle.words.specs.Words.{word_bytes, is_uneven, number_from, numbers, bytes_of};
 ghost use Rattle.words.specs.Steps.{number_stored};
