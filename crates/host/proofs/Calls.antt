@@ -23,6 +23,12 @@ use Rattle.words.proofs.Whole.{even}
 use Rattle.words.proofs.Digits.{length_numbers}
 use Rattle.host.specs.Calls.{host_divide_refusal, host_memory, HostDivided, verdict_word, host_verdict}
 
+-- the first words that were loaded are the numbers, as many as there are
+pub loaded_numbers : (bytes behind : List ℕ) {out : List ℕ} (count : ℕ) → out ≡ numbers bytes ++ behind → length bytes / 8 ≡ count
+    → take count out ≡ numbers bytes
+loaded_numbers bytes behind count loaded counted =
+    ap (take count) loaded ∙ take_at (numbers bytes) behind count (length_numbers bytes ∙ counted)
+
 module _ (pot : ℕ) (weights amounts : List ℕ) where
   -- of whole words the numbers are judged
   pub refusal_even : WholeWords weights amounts → host_divide_refusal pot weights amounts ≡ divide_refusal pot (numbers weights) (length amounts / 8)

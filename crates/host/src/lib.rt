@@ -1,6 +1,8 @@
 // The phone app's calls: the division and the check on a pot and byte slices, eight bytes to a number, low byte first, and the
 // statement of a month file. The answer is one word: the refusal's number in its low byte, 0 where accepted, and the call's value
 // in the bits above. A refusal writes no byte. The calls keep nothing between them.
+#![tactic(auto)]
+
 ghost use Rattle.std.specs.Prelude.{◌≡◌, ◌/◌, ◌≤◌, min, length};
 ghost use Rattle.division.specs.Limits.{most_weights};
 ghost use Rattle.words.specs.Words.{word_bytes, WholeWords};
@@ -37,7 +39,7 @@ fn divide_words(
     shares: &mut [u64],
 ) -> u64
     requires whole_words { WholeWords weights.now amounts.old }
-    requires word_bytes_len_bound { (length weights.now / word_bytes ≤ most_weights) × (length numbers.old ≡ most_weights) × (length shares.old ≡ most_weights) }
+    requires working_words { (length weights.now / word_bytes ≤ most_weights) × (length numbers.old ≡ most_weights) × (length shares.old ≡ most_weights) }
     ensures { HostDivided pot weights.now amounts.old amounts.new result }
 {
     let count = weights.len() / words::WORD;
@@ -62,7 +64,7 @@ fn check_words(
     handed: &mut [u64],
 ) -> u64
     requires whole_words { WholeWords weights.now amounts.now × (length amounts.now ≡ length weights.now) }
-    requires word_bytes_len_bound { (length weights.now / word_bytes ≤ most_weights) × (length numbers.old ≡ most_weights) × (length handed.old ≡ most_weights) }
+    requires working_words { (length weights.now / word_bytes ≤ most_weights) × (length numbers.old ≡ most_weights) × (length handed.old ≡ most_weights) }
     ensures { result ≡ host_verdict pot weights.now amounts.now }
 {
     let count = weights.len() / words::WORD;

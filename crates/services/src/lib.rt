@@ -1,6 +1,8 @@
 // One service of a month, black start or reactive, by its number: the owners' credits for its units, and its charges to the
 // accounts, in columns with a word for each owner or account. The units' credits make the zones' pots here, and decide what of an
 // account's use is zone use; `service` divides the pots. `pool`'s `specs/Services.antt` says each credit and charge in the paper's words.
+#![tactic(auto)]
+
 ghost use Rattle.std.specs.Prelude.{◌≡◌, map, ◌+◌, ◌*◌, ◌≤◌, ◌<◌, ◌^◌, length};
 ghost use Rattle.lists.specs.Sums.{at};
 ghost use Rattle.lists.specs.Entries.{put};
@@ -90,7 +92,7 @@ fn fill_parts<'a>(
     nonzoneparts: &mut [u64],
 )
     requires usable { Usable (tables_from (map (λ x. x.now) tables)) networks.now energies.now × Summable (rows_of (tables_from (map (λ x. x.now) tables)) Units) unitcredits.now }
-    requires tables_in_bounds { (rows_of (tables_from (map (λ x. x.now) tables)) Accounts ≤ length zoneparts.old) × (rows_of (tables_from (map (λ x. x.now) tables)) Accounts ≤ length nonzoneparts.old) }
+    requires room_for_rows { (rows_of (tables_from (map (λ x. x.now) tables)) Accounts ≤ length zoneparts.old) × (rows_of (tables_from (map (λ x. x.now) tables)) Accounts ≤ length nonzoneparts.old) }
     ensures { PartsFilled (service_lent (tables_from (map (λ x. x.now) tables.entry)) networks.now energies.now unitcredits.now) zoneparts.old zoneparts.new nonzoneparts.old nonzoneparts.new }
 {
     let count = columns::rows_of(tables, Table::Accounts);
@@ -168,7 +170,7 @@ pub fn settle<'a>(
     place: u64,
 ) -> Answer
     requires creditable { Creditable (units_input month.number (tables_from (map (λ x. x.now) tables))) × Usable (tables_from (map (λ x. x.now) tables)) networks.now energies.now × (place + 2 * rows_of (tables_from (map (λ x. x.now) tables)) Zones < 2 ^ 64) }
-    requires tables_in_bounds { (rows_of (tables_from (map (λ x. x.now) tables)) Accounts ≤ length charges.old) × (rows_of (tables_from (map (λ x. x.now) tables)) Owners ≤ length credits.old) }
+    requires room_for_rows { (rows_of (tables_from (map (λ x. x.now) tables)) Accounts ≤ length charges.old) × (rows_of (tables_from (map (λ x. x.now) tables)) Owners ≤ length credits.old) }
     ensures { ServiceSettled (units_input month.number (tables_from (map (λ x. x.now) tables.entry))) (at networks.now) (at energies.now) service place charges.old charges.new credits.old credits.new result }
 {
     let mut unitcredits = [0u64; MOST_UNITS];

@@ -20,7 +20,6 @@ use Rattle.answer.proofs.Turns.{then_none, refuse_number}
 use Rattle.division.specs.Limits.{size_refusal}
 use Rattle.division.specs.Shares.{shares}
 use Rattle.groups.proofs.Same as groups
-use Rattle.service.specs.Service as service
 use Rattle.service.specs.Turn.{service_in_turn, Served}
 use Rattle.service.proofs.Same as services
 use Rattle.tables.specs.declared.Table.TheVariants.{Owners, Accounts}

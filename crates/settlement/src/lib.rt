@@ -1,6 +1,8 @@
 // The settlement of a month, from its head and its tables as plain numbers: its answer, and the lent outputs. An input is judged
 // first, then every division is made in working columns, with the charges and credits of `pool`, `services` and `firm`, and only a
 // month that is accepted writes to the lent outputs. `specs/` says what is answered and written, `proofs/Promises.antt` what follows from it.
+#![tactic(auto)]
+
 ghost use Rattle.std.specs.Prelude.{map, ◌*◌, ◌≤◌, length};
 ghost use Rattle.tables.specs.Shape.{charge_width, credit_width, tables_from};
 ghost use Rattle.pool.specs.Input.{month_of, owner_count, account_count};
@@ -108,7 +110,7 @@ fn settle_good<'a>(
     credits: &mut [u64],
 ) -> Answer
     requires settleable { Settleable (month_with month head (tables_from (map (λ x. x.now) tables))) }
-    requires charge_width_in_bounds { (account_count (month_with month head (tables_from (map (λ x. x.now) tables))) * charge_width ≤ length charges.old) × (owner_count (month_with month head (tables_from (map (λ x. x.now) tables))) * credit_width ≤ length credits.old) }
+    requires outputs_fit { (account_count (month_with month head (tables_from (map (λ x. x.now) tables))) * charge_width ≤ length charges.old) × (owner_count (month_with month head (tables_from (map (λ x. x.now) tables))) * credit_width ≤ length credits.old) }
     ensures { GoodSettled (month_with month head (tables_from (map (λ x. x.now) tables.entry))) charges.old charges.new credits.old credits.new result }
 {
     let mut accounts = [0u64; CHARGE_WIDTH * MOST_ACCOUNTS];

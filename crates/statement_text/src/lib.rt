@@ -1,6 +1,8 @@
 // The statement of a month: the file's bytes are read, the month is settled, and every account's charges, every owner's credits and
 // both totals are written as lines of text, or the one line of the first refusal. `specs/Statement.antt` has the statement of a
 // text, `proofs/Promises.antt` what follows from it.
+#![tactic(auto)]
+
 ghost use Rattle.std.specs.Prelude.{map};
 ghost use Rattle.tables.specs.Shape.{tables_from};
 ghost use Rattle.pool.specs.Input.{month_of};
