@@ -140,10 +140,10 @@ record Figures : Type 0 where
   idle_answer : answer_of (case_idle (2 ∷ 1 ∷ 10 ∷ []) []) 8 5 ≡ accepted
   idle_charged : charged (case_idle (2 ∷ 1 ∷ 10 ∷ []) []) ≡ (0 ∷ 1000 ∷ [])
   idle_reserved_answer : answer_of (case_idle [] (2 ∷ 10 ∷ 0 ∷ [])) 8 5 ≡ record { number = 9; table = 9; row = 4 }
-  one_a_year__april_answer : answer_of (case_one_a_year 4 30) 8 5 ≡ accepted
-  one_a_year__april_charged : charged (case_one_a_year 4 30) ≡ (500 ∷ 500 ∷ [])
-  one_a_year__december_answer : answer_of (case_one_a_year 12 31) 8 5 ≡ accepted
-  one_a_year__december_charged : charged (case_one_a_year 12 31) ≡ (1000 ∷ 1 ∷ [])
+  one_a_year_april_answer : answer_of (case_one_a_year 4 30) 8 5 ≡ accepted
+  one_a_year_april_charged : charged (case_one_a_year 4 30) ≡ (500 ∷ 500 ∷ [])
+  one_a_year_december_answer : answer_of (case_one_a_year 12 31) 8 5 ≡ accepted
+  one_a_year_december_charged : charged (case_one_a_year 12 31) ≡ (1000 ∷ 1 ∷ [])
   large_answer : answer_of case_large 12 5 ≡ record { number = 8; table = 9; row = 10 }
   firm_answer : answer_of (case_firm []) 8 10 ≡ accepted
   firm_charges : listed 2 (firm.firm_charge (case_firm [])) ≡ (13208 ∷ 302 ∷ [])
@@ -175,10 +175,10 @@ figures =
       idle_answer = refl;
       idle_charged = refl;
       idle_reserved_answer = refl;
-      one_a_year__april_answer = refl;
-      one_a_year__april_charged = refl;
-      one_a_year__december_answer = refl;
-      one_a_year__december_charged = refl;
+      one_a_year_april_answer = refl;
+      one_a_year_april_charged = refl;
+      one_a_year_december_answer = refl;
+      one_a_year_december_charged = refl;
       large_answer = refl;
       firm_answer = refl;
       firm_charges = refl;

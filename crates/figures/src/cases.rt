@@ -4,6 +4,8 @@
 ghost use Rattle.std.specs.Prelude.{◌≤◌, length};
 
 use crate::print::{answer_name, list, text};
+use std::io;
+use std::io::Read;
 use verdict::Verdict;
 
 // What a line gives: the pot, how many weights and how many words there are, and whether these are amounts to check.
@@ -15,12 +17,23 @@ struct Given {
     checked: bool,
 }
 
+// The place of the first such byte from `from` on, or the end.
+fn place(line: &[u8], from: usize, byte: u8) -> usize
+    requires { from ≤ length line.now }
+    ensures { (from ≤ result) × (result ≤ length line.now) }
+{
+    match memchr::memchr(byte, &line[from..]) {
+        Some(at) => from + at,
+        None => line.len(),
+    }
+}
+
 // The place behind the first such byte from `from` on, or the end.
 fn behind(line: &[u8], from: usize, byte: u8) -> usize
     requires { from ≤ length line.now }
     ensures { result ≤ length line.now }
 {
-    let at = bytes::scan::find(line, from, line.len(), byte);
+    let at = place(line, from, byte);
     if at < line.len() {
         return at + 1;
     }
@@ -79,48 +92,52 @@ fn read_line(line: &[u8], weights: &mut [u64], words: &mut [u64]) -> Given
     }
 }
 
-fn verdict_name(verdict: Verdict) {
+fn verdict_name(rt: &HostRuntime, verdict: Verdict) -> io::Result<()> {
     match verdict {
-        Verdict::Yes => text(b"yes"),
-        Verdict::No => text(b"no"),
-        Verdict::Refused(number) => answer_name(number),
+        Verdict::Yes => text(rt, b"yes"),
+        Verdict::No => text(rt, b"no"),
+        Verdict::Refused(number) => answer_name(rt, number),
     }
 }
 
-fn divide(pot: u64, weights: &[u64], out: &mut [u64]) {
+fn divide(rt: &HostRuntime, pot: u64, weights: &[u64], out: &mut [u64]) -> io::Result<()> {
     let r = division::divide(pot, weights, out);
-    answer_name(r.answer.number);
-    list(b", ", out);
+    answer_name(rt, r.answer.number)?;
+    list(rt, b", ", out)
 }
 
-fn show(line: &[u8]) {
+fn show(rt: &HostRuntime, line: &[u8]) -> io::Result<()> {
     let mut weights = [0u64; 65];
     let mut words = [0u64; 65];
     let given = read_line(line, &mut weights, &mut words);
     let count = given.weights;
     let held = given.words;
-    text(line);
-    text(b": ");
+    text(rt, line)?;
+    text(rt, b": ")?;
     if given.checked {
-        verdict_name(verdict::check(given.pot, &weights[..count], &words[..held]));
+        verdict_name(
+            rt,
+            verdict::check(given.pot, &weights[..count], &words[..held]),
+        )?;
     } else {
-        divide(given.pot, &weights[..count], &mut words[..held]);
+        divide(rt, given.pot, &weights[..count], &mut words[..held])?;
     }
-    text(b"\n");
+    text(rt, b"\n")
 }
 
 // Every line in turn.
-fn show_all(lines: &[u8]) {
+fn show_all(rt: &HostRuntime, lines: &[u8]) -> io::Result<()> {
     let mut at = 0;
     while at < lines.len() {
-        let end = bytes::scan::find(lines, at, lines.len(), b'\n');
-        show(&lines[at..end]);
+        let end = place(lines, at, b'\n');
+        show(rt, &lines[at..end])?;
         at = end + 1;
     }
+    Ok(())
 }
 
-pub(crate) fn run() {
-    let mut input = [0u8; 8_192];
-    let count = io::read_full(libc::STDIN_FILENO, &mut input);
-    show_all(&input[..count]);
+pub(crate) fn run(rt: &HostRuntime) -> io::Result<()> {
+    let mut input = Vec::new(rt.alloc());
+    rt.stdin().read_to_end(&mut input)?;
+    show_all(rt, &input)
 }

@@ -4,11 +4,15 @@
 // more than a word holds, which refusal comes first; then C1 to C3, divisions of other figures handed back to the check, amounts of
 // any size, and its refusals. The file `stdout` has what must come by the paper, and the gate holds one to the other. The starred
 // figures are theorems, in `specs/Starred.antt`, and are run here all the same.
+#![tactic(auto)]
+
 mod cases;
 mod months;
 mod print;
 
-fn main() {
-    cases::run();
-    months::run();
+use std::io;
+
+fn main(rt: HostRuntime) -> io::Result<()> {
+    cases::run(&rt)?;
+    months::run(&rt)
 }

@@ -5,72 +5,74 @@ ghost use Rattle.month.specs.Quantities.{most_contributions};
 
 use crate::print::{answer_name, digits, number, text};
 use month::{Made, Month, TenthMwDays};
+use std::io;
 
-fn charge(name: &[u8], contributions: u64, rate: u64)
+fn charge(rt: &HostRuntime, name: &[u8], contributions: u64, rate: u64) -> io::Result<()>
     requires { (contributions ≤ most_contributions) × (rate ≤ most_rate) }
 {
-    text(name);
-    number(b": ", contributions);
-    number(b" tenths at ", rate);
+    text(rt, name)?;
+    number(rt, b": ", contributions)?;
+    number(rt, b" tenths at ", rate)?;
     number(
+        rt,
         b": ",
         month::charge_at_rate(TenthMwDays(contributions), rate),
-    );
-    text(b"\n");
+    )?;
+    text(rt, b"\n")
 }
 
-fn charges() {
-    charge(b"N1", 3000, 1_471_400);
-    charge(b"N2", 1825, 1);
-    charge(b"N2", 1824, 1);
+fn charges(rt: &HostRuntime) -> io::Result<()> {
+    charge(rt, b"N1", 3000, 1_471_400)?;
+    charge(rt, b"N2", 1825, 1)?;
+    charge(rt, b"N2", 1824, 1)
 }
 
-fn twelfth(name: &[u8], annual: u64, month: u64, days: u64)
+fn twelfth(rt: &HostRuntime, name: &[u8], annual: u64, month: u64, days: u64) -> io::Result<()>
     requires { annual ≤ most_annual }
 {
-    text(name);
-    number(b": annual ", annual);
-    number(b" in month ", month);
-    text(b": ");
+    text(rt, name)?;
+    number(rt, b": annual ", annual)?;
+    number(rt, b" in month ", month)?;
+    text(rt, b": ")?;
     match Month::new(month, days) {
-        Made::Good(made) => digits(made.twelfth(annual)),
-        Made::Bad => answer_name(answer::MONTH),
-    }
-    text(b"\n");
+        Made::Good(made) => digits(rt, made.twelfth(annual)),
+        Made::Bad => answer_name(rt, answer::MONTH),
+    }?;
+    text(rt, b"\n")
 }
 
-fn twelfths() {
-    twelfth(b"M1", 100, 1, 31);
-    twelfth(b"M1", 100, 2, 28);
-    twelfth(b"M1", 100, 3, 31);
+fn twelfths(rt: &HostRuntime) -> io::Result<()> {
+    twelfth(rt, b"M1", 100, 1, 31)?;
+    twelfth(rt, b"M1", 100, 2, 28)?;
+    twelfth(rt, b"M1", 100, 3, 31)
 }
 
-fn made_name(made: Made) {
+fn made_name(rt: &HostRuntime, made: Made) -> io::Result<()> {
     match made {
-        Made::Good(_) => answer_name(answer::ACCEPTED),
-        Made::Bad => answer_name(answer::MONTH),
+        Made::Good(_) => answer_name(rt, answer::ACCEPTED),
+        Made::Bad => answer_name(rt, answer::MONTH),
     }
 }
 
-fn length(name: &[u8], month: u64, days: u64) {
-    text(name);
-    number(b": month ", month);
-    number(b" of ", days);
-    text(b" days: ");
-    made_name(Month::new(month, days));
-    text(b"\n");
+fn length(rt: &HostRuntime, name: &[u8], month: u64, days: u64) -> io::Result<()> {
+    text(rt, name)?;
+    number(rt, b": month ", month)?;
+    number(rt, b" of ", days)?;
+    text(rt, b" days: ")?;
+    made_name(rt, Month::new(month, days))?;
+    text(rt, b"\n")
 }
 
-fn lengths() {
-    length(b"February", 2, 28);
-    length(b"February", 2, 29);
-    length(b"February", 2, 30);
-    length(b"April", 4, 30);
-    length(b"April", 4, 31);
+fn lengths(rt: &HostRuntime) -> io::Result<()> {
+    length(rt, b"February", 2, 28)?;
+    length(rt, b"February", 2, 29)?;
+    length(rt, b"February", 2, 30)?;
+    length(rt, b"April", 4, 30)?;
+    length(rt, b"April", 4, 31)
 }
 
-pub(crate) fn run() {
-    charges();
-    twelfths();
-    lengths();
+pub(crate) fn run(rt: &HostRuntime) -> io::Result<()> {
+    charges(rt)?;
+    twelfths(rt)?;
+    lengths(rt)
 }

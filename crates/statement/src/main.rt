@@ -1,26 +1,26 @@
 // The statement program: a month file on standard input, its statement on standard output. A read or a write that fails is said on
 // standard error, and no `refuse=` line blames the file for it.
+#![tactic(auto)]
+
 use statement_text::{MOST_ASKED, MOST_SHOWN};
 
 mod input;
 
-fn main() {
+// Says what failed. Where even that can't be said, nobody is there to hear it.
+fn say(rt: &HostRuntime, failed: &str) {
+    let _said = rt.eprintln(failed).is_ok();
+}
+
+fn main(rt: HostRuntime) {
     let mut text = [0u8; MOST_ASKED];
     let mut out = [0u8; MOST_SHOWN];
-    let input = input::read_all(libc::STDIN_FILENO, &mut text);
+    let input = input::read_all(&mut rt.stdin(), &mut text);
     if input.failed {
-        io::write_all(
-            libc::STDERR_FILENO,
-            b"statement: standard input can't be read\n",
-        );
+        say(&rt, "statement: standard input can't be read");
         return;
     }
     let length = statement_text::state_file(&text, input.count, &mut out);
-    let written = io::write_all(libc::STDOUT_FILENO, &out[..length]);
-    if !written {
-        io::write_all(
-            libc::STDERR_FILENO,
-            b"statement: standard output can't be written\n",
-        );
+    if rt.write_all(&out[..length]).is_err() {
+        say(&rt, "statement: standard output can't be written");
     }
 }

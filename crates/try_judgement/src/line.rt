@@ -2,24 +2,25 @@
 use crate::block;
 use answer::Answer;
 use judgement::Judged;
+use std::io;
 use tables::{HEADS, Head, TABLES};
 
-fn text(bytes: &[u8]) {
-    io::write_all(libc::STDOUT_FILENO, bytes);
+fn text(rt: &HostRuntime, bytes: &[u8]) -> io::Result<()> {
+    rt.write_all(bytes)
 }
 
 // Some text and a number behind it.
-fn number(bytes: &[u8], number: u64) {
-    text(bytes);
-    io::print_decimal(libc::STDOUT_FILENO, number);
+fn number(rt: &HostRuntime, bytes: &[u8], number: u64) -> io::Result<()> {
+    text(rt, bytes)?;
+    rt.print(number)
 }
 
-fn answer_line(name: &[u8], answer: Answer) {
-    text(name);
-    number(b": ", answer.number);
-    number(b",", answer.table);
-    number(b",", answer.row);
-    text(b"\n");
+fn answer_line(rt: &HostRuntime, name: &[u8], answer: Answer) -> io::Result<()> {
+    text(rt, name)?;
+    number(rt, b": ", answer.number)?;
+    number(rt, b",", answer.table)?;
+    number(rt, b",", answer.row)?;
+    text(rt, b"\n")
 }
 
 // Acceptance is 0, 0, 0.
@@ -48,10 +49,10 @@ fn tables_of<'a>(words: &'a [u64]) -> [&'a [u64]; TABLES] {
 }
 
 // The line of the month whose words stand in a block; no line where its head is not whole.
-pub(crate) fn month_line(name: &[u8], words: &[u64]) {
+pub(crate) fn month_line(rt: &HostRuntime, name: &[u8], words: &[u64]) -> io::Result<()> {
     let numbers = block::part(words, 0);
     if numbers.len() < HEADS {
-        return;
+        return Ok(());
     }
     let head = Head {
         month: numbers[0],
@@ -65,5 +66,5 @@ pub(crate) fn month_line(name: &[u8], words: &[u64]) {
     let charges = block::part(words, 7).len();
     let credits = block::part(words, 8).len();
     let judged = judgement::judge(head, tables_of(words), charges, credits);
-    answer_line(name, answered(judged));
+    answer_line(rt, name, answered(judged))
 }

@@ -4,27 +4,31 @@
 // (`change` says how). Each refusal that a table can give stands at a first, a middle and a last row, each limit on both its sides,
 // and of two defects at once the one that comes first. The file `stdout` has what must come by the paper, and the gate holds one to
 // the other.
+#![tactic(auto)]
+
 mod block;
 mod change;
 mod line;
 
-const MOST_TEXT: usize = 32_768;
+use std::io;
+use std::io::Read;
 
 // A line for every month behind April: April is taken, and then what the month changes.
-fn months(text: &[u8], words: &mut [u64]) {
+fn months(rt: &HostRuntime, text: &[u8], words: &mut [u64]) -> io::Result<()> {
     let mut at = change::changes(text, 0, words) + 1;
     while at < text.len() {
         change::changes(text, 0, words);
         let name = change::name_end(text, at);
         let end = change::changes(text, name, words);
-        line::month_line(&text[at..name], words);
+        line::month_line(rt, &text[at..name], words)?;
         at = end + 1;
     }
+    Ok(())
 }
 
-fn main() {
-    let mut text = [0u8; MOST_TEXT];
+fn main(rt: HostRuntime) -> io::Result<()> {
+    let mut text = Vec::new(rt.alloc());
+    rt.stdin().read_to_end(&mut text)?;
     let mut words = [0u64; block::WORDS];
-    let count = io::read_full(libc::STDIN_FILENO, &mut text);
-    months(&text[..count], &mut words);
+    months(&rt, &text, &mut words)
 }

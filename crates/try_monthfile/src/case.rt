@@ -2,6 +2,7 @@
 // The lines of case S start at 0, 8, 16, 26, 34, 43, 53 (the head), 63 (zone), 77, 91 (owners), 105 (unit), 126, 141 (accounts),
 // 156, 168 (loads), 180 (ptp) and 192 (end), and its length is 198.
 use crate::{line, marks};
+use std::io;
 use tables::{Head, TABLES};
 
 const TEXT: [u8; 198] =
@@ -12,7 +13,13 @@ pub(crate) const FULL: [usize; TABLES] = [32, 192, 384, 96, 2_976, 96, 4_960];
 
 // A text that is read into tables of so many words, by the table's place, up to a word more than a full table has; in each of them
 // the first `looked` are held against the mark.
-pub(crate) fn read_into(name: &[u8], text: &[u8], sizes: [usize; TABLES], looked: usize) {
+pub(crate) fn read_into(
+    rt: &HostRuntime,
+    name: &[u8],
+    text: &[u8],
+    sizes: [usize; TABLES],
+    looked: usize,
+) -> io::Result<()> {
     let mut zone_words = [marks::WORD; 33];
     let mut owner_words = [marks::WORD; 193];
     let mut unit_words = [marks::WORD; 385];
@@ -28,6 +35,7 @@ pub(crate) fn read_into(name: &[u8], text: &[u8], sizes: [usize; TABLES], looked
     let reservations = marks::least(97, sizes[5]);
     let firm = marks::least(4_961, sizes[6]);
     read_and_show(
+        rt,
         name,
         text,
         &mut zone_words[..zones],
@@ -38,10 +46,11 @@ pub(crate) fn read_into(name: &[u8], text: &[u8], sizes: [usize; TABLES], looked
         &mut reservation_words[..reservations],
         &mut firm_words[..firm],
         looked,
-    );
+    )
 }
 
 fn read_and_show(
+    rt: &HostRuntime,
     name: &[u8],
     text: &[u8],
     zones: &mut [u64],
@@ -52,7 +61,7 @@ fn read_and_show(
     reservations: &mut [u64],
     firm: &mut [u64],
     looked: usize,
-) {
+) -> io::Result<()> {
     let reading = fileread::read(
         text,
         zones,
@@ -63,7 +72,7 @@ fn read_and_show(
         reservations,
         firm,
     );
-    line::reading(name, reading);
+    line::reading(rt, name, reading)?;
     let changed = [
         marks::changed_words(zones, looked),
         marks::changed_words(owners, looked),
@@ -73,13 +82,19 @@ fn read_and_show(
         marks::changed_words(reservations, looked),
         marks::changed_words(firm, looked),
     ];
-    line::each(b" words ", changed);
-    line::text(b"\n");
+    line::each(rt, b" words ", changed)?;
+    line::text(rt, b"\n")
 }
 
 // Case S with another piece, of 58 bytes at most, in place of its bytes from `from` to before `to`, read into tables of full size. Rows
 // are stored from the front, and the first 36 words of each table are looked at.
-pub(crate) fn bent(name: &[u8], from: usize, to: usize, piece: &[u8]) {
+pub(crate) fn bent(
+    rt: &HostRuntime,
+    name: &[u8],
+    from: usize,
+    to: usize,
+    piece: &[u8],
+) -> io::Result<()> {
     let whole = TEXT;
     let mut bent = [0u8; 256];
     let end = marks::least(198, to);
@@ -90,21 +105,26 @@ pub(crate) fn bent(name: &[u8], from: usize, to: usize, piece: &[u8]) {
     text::line::put_bytes(&whole[..start], &mut bent, 0);
     text::line::put_bytes(&piece[..size], &mut bent, start);
     text::line::put_bytes(&whole[end..], &mut bent, behind);
-    read_into(name, &bent[..length], FULL, 36);
+    read_into(rt, name, &bent[..length], FULL, 36)
 }
 
 // The front of tables, as many rows of each as case S has, written into marked bytes: how many of these were changed, and how many
 // are case S's.
-fn write_again<'a>(text: &[u8], head: Head, tables: [&'a [u64]; TABLES]) {
+fn write_again<'a>(
+    rt: &HostRuntime,
+    text: &[u8],
+    head: Head,
+    tables: [&'a [u64]; TABLES],
+) -> io::Result<()> {
     let mut out = [marks::BYTE; 256];
     let written = filewrite::write(head, tables, &mut out);
-    line::written(b"case S read and written again", written);
-    line::count(b" bytes ", marks::changed_bytes(&out));
-    line::count(b" same ", marks::same_bytes(text, &out));
-    line::text(b"\n");
+    line::written(rt, b"case S read and written again", written)?;
+    line::count(rt, b" bytes ", marks::changed_bytes(&out))?;
+    line::count(rt, b" same ", marks::same_bytes(text, &out))?;
+    line::text(rt, b"\n")
 }
 
-fn again(text: &[u8]) {
+fn again(rt: &HostRuntime, text: &[u8]) -> io::Result<()> {
     let mut zones = [marks::WORD; 32];
     let mut owners = [marks::WORD; 192];
     let mut units = [marks::WORD; 384];
@@ -124,6 +144,7 @@ fn again(text: &[u8]) {
     );
     let head = held.head;
     write_again(
+        rt,
         text,
         head,
         [
@@ -135,11 +156,11 @@ fn again(text: &[u8]) {
             &reservations[..3],
             &firm[..0],
         ],
-    );
+    )
 }
 
-pub(crate) fn run() {
+pub(crate) fn run(rt: &HostRuntime) -> io::Result<()> {
     let text = TEXT;
-    read_into(b"case S", &text, FULL, 4_961);
-    again(&text);
+    read_into(rt, b"case S", &text, FULL, 4_961)?;
+    again(rt, &text)
 }

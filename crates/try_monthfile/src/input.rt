@@ -6,9 +6,10 @@
 // are all 0: as many rows as there may be, and one more. `lent=` reads the bytes as a text into such tables, of which so many words
 // are looked at: tables that are too short. `write=` has how many bytes are lent for the text of tables that are all 0: tables that
 // are not whole rows, or have a row too many.
-ghost use Rattle.std.specs.Prelude.{◌≤◌, ◌<◌, length};
+ghost use Rattle.std.specs.Prelude.{◌≤◌, ◌<◌, length, IfOk};
 
 use crate::{case, marks, writes};
+use std::io;
 use tables::TABLES;
 
 // The place of the line feed that ends the line at `from`, or the end.
@@ -56,65 +57,66 @@ fn sizes(numbers: [u64; NUMBERS]) -> [usize; TABLES] {
 }
 
 // A case of each kind, with its name, and the place behind it; 0 where another kind of case stands there.
-fn bent(cases: &[u8], name: &[u8], at: usize) -> usize {
+fn bent(rt: &HostRuntime, cases: &[u8], name: &[u8], at: usize) -> io::Result<usize> {
     let mut numbers = [0u64; 3];
     let from = take(cases, at, b"bent", 3, &mut numbers);
     if from == 0 {
-        return 0;
+        return Ok(0);
     }
     let piece = marks::part(cases, from, numbers[0] as usize);
-    case::bent(name, numbers[1] as usize, numbers[2] as usize, piece);
-    from + piece.len() + 1
+    case::bent(rt, name, numbers[1] as usize, numbers[2] as usize, piece)?;
+    Ok(from + piece.len() + 1)
 }
 
-fn zeros(cases: &[u8], name: &[u8], at: usize) -> usize {
+fn zeros(rt: &HostRuntime, cases: &[u8], name: &[u8], at: usize) -> io::Result<usize> {
     let mut numbers = [0u64; NUMBERS];
     let from = take(cases, at, b"zeros", NUMBERS, &mut numbers);
     if from == 0 {
-        return 0;
+        return Ok(0);
     }
     let piece = marks::part(cases, from, numbers[0] as usize);
-    writes::read_zeros(name, sizes(numbers), numbers[1] as usize, piece);
-    from + piece.len() + 1
+    writes::read_zeros(rt, name, sizes(numbers), numbers[1] as usize, piece)?;
+    Ok(from + piece.len() + 1)
 }
 
-fn lent(cases: &[u8], name: &[u8], at: usize) -> usize {
+fn lent(rt: &HostRuntime, cases: &[u8], name: &[u8], at: usize) -> io::Result<usize> {
     let mut numbers = [0u64; NUMBERS];
     let from = take(cases, at, b"lent", NUMBERS, &mut numbers);
     if from == 0 {
-        return 0;
+        return Ok(0);
     }
     let piece = marks::part(cases, from, numbers[0] as usize);
-    case::read_into(name, piece, sizes(numbers), numbers[1] as usize);
-    from + piece.len() + 1
+    case::read_into(rt, name, piece, sizes(numbers), numbers[1] as usize)?;
+    Ok(from + piece.len() + 1)
 }
 
-fn write(cases: &[u8], name: &[u8], at: usize) -> usize {
+fn write(rt: &HostRuntime, cases: &[u8], name: &[u8], at: usize) -> io::Result<usize> {
     let mut numbers = [0u64; NUMBERS];
     let from = take(cases, at, b"write", NUMBERS, &mut numbers);
     if from == 0 {
-        return 0;
+        return Ok(0);
     }
-    writes::write_zeros(name, sizes(numbers), numbers[1] as usize);
-    from + 1
+    writes::write_zeros(rt, name, sizes(numbers), numbers[1] as usize)?;
+    Ok(from + 1)
 }
 
 // The case at `from`, and the place behind it.
-fn show(cases: &[u8], from: usize) -> usize
+fn show(rt: &HostRuntime, cases: &[u8], from: usize) -> io::Result<usize>
     requires { from < length cases.now }
-    ensures { from < result }
+    ensures { IfOk result (λ next. from < next) }
 {
     let end = line_end(cases, from);
     let name = marks::part(cases, from, end - from);
     let at = end + 1;
-    let some = marks::most(bent(cases, name, at), zeros(cases, name, at));
-    let others = marks::most(lent(cases, name, at), write(cases, name, at));
-    marks::most(from + 1, marks::most(some, others))
+    let some = marks::most(bent(rt, cases, name, at)?, zeros(rt, cases, name, at)?);
+    let others = marks::most(lent(rt, cases, name, at)?, write(rt, cases, name, at)?);
+    Ok(marks::most(from + 1, marks::most(some, others)))
 }
 
-pub(crate) fn run(cases: &[u8]) {
+pub(crate) fn run(rt: &HostRuntime, cases: &[u8]) -> io::Result<()> {
     let mut at = 0;
     while at < cases.len() {
-        at = show(cases, at);
+        at = show(rt, cases, at)?;
     }
+    Ok(())
 }

@@ -2,58 +2,60 @@
 use answer::Answer;
 use fileread::Reading;
 use filewrite::Written;
+use std::io;
 use tables::TABLES;
 
-pub(crate) fn text(bytes: &[u8]) {
-    io::write_all(libc::STDOUT_FILENO, bytes);
+pub(crate) fn text(rt: &HostRuntime, bytes: &[u8]) -> io::Result<()> {
+    rt.write_all(bytes)
 }
 
 // Some text and a number behind it.
-fn number(bytes: &[u8], number: u64) {
-    text(bytes);
-    io::print_decimal(libc::STDOUT_FILENO, number);
+fn number(rt: &HostRuntime, bytes: &[u8], number: u64) -> io::Result<()> {
+    text(rt, bytes)?;
+    rt.print(number)
 }
 
-pub(crate) fn count(bytes: &[u8], count: usize) {
-    number(bytes, count as u64);
+pub(crate) fn count(rt: &HostRuntime, bytes: &[u8], count: usize) -> io::Result<()> {
+    number(rt, bytes, count as u64)
 }
 
-fn three(bytes: &[u8], first: u64, second: u64, third: u64) {
-    number(bytes, first);
-    number(b",", second);
-    number(b",", third);
+fn three(rt: &HostRuntime, bytes: &[u8], first: u64, second: u64, third: u64) -> io::Result<()> {
+    number(rt, bytes, first)?;
+    number(rt, b",", second)?;
+    number(rt, b",", third)
 }
 
 // Some text and a number for each table behind it, by the table's place.
-pub(crate) fn each(bytes: &[u8], counts: [usize; TABLES]) {
-    count(bytes, counts[0]);
+pub(crate) fn each(rt: &HostRuntime, bytes: &[u8], counts: [usize; TABLES]) -> io::Result<()> {
+    count(rt, bytes, counts[0])?;
     let mut k = 1;
     while k < TABLES {
-        count(b",", counts[k]);
+        count(rt, b",", counts[k])?;
         k += 1;
     }
+    Ok(())
 }
 
-fn answered(name: &[u8], answer: Answer) {
-    text(name);
-    three(b": ", answer.number, answer.table, answer.row);
+fn answered(rt: &HostRuntime, name: &[u8], answer: Answer) -> io::Result<()> {
+    text(rt, name)?;
+    three(rt, b": ", answer.number, answer.table, answer.row)
 }
 
 // What a read answers.
-pub(crate) fn reading(name: &[u8], reading: Reading) {
+pub(crate) fn reading(rt: &HostRuntime, name: &[u8], reading: Reading) -> io::Result<()> {
     let answer = reading.answer;
-    answered(name, answer);
+    answered(rt, name, answer)?;
     let head = reading.head;
-    three(b" head ", head.month, head.days, head.nonzone);
-    three(b",", head.daily, head.weekly, head.monthly);
-    number(b",", head.weekday);
+    three(rt, b" head ", head.month, head.days, head.nonzone)?;
+    three(rt, b",", head.daily, head.weekly, head.monthly)?;
+    number(rt, b",", head.weekday)?;
     let counts = reading.counts;
-    each(b" rows ", counts);
+    each(rt, b" rows ", counts)
 }
 
 // What a write answers.
-pub(crate) fn written(name: &[u8], written: Written) {
+pub(crate) fn written(rt: &HostRuntime, name: &[u8], written: Written) -> io::Result<()> {
     let answer = written.answer;
-    answered(name, answer);
-    count(b" length ", written.length);
+    answered(rt, name, answer)?;
+    count(rt, b" length ", written.length)
 }

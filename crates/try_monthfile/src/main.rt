@@ -3,16 +3,21 @@
 // and for each table how many of the lent words it changed. A line on a write has the answer, the length, and how many of the lent
 // bytes it changed. The file `stdin` beside `src/` has the cases (`input` says how), `stdout` what must come by the paper, and the
 // gate holds one to the other.
+#![tactic(auto)]
+
 mod case;
 mod input;
 mod line;
 mod marks;
 mod writes;
 
-fn main() {
-    let mut cases = [0u8; 16_384];
-    let count = io::read_full(libc::STDIN_FILENO, &mut cases);
-    case::run();
-    input::run(&cases[..count]);
-    writes::run();
+use std::io;
+use std::io::Read;
+
+fn main(rt: HostRuntime) -> io::Result<()> {
+    let mut cases = Vec::new(rt.alloc());
+    rt.stdin().read_to_end(&mut cases)?;
+    case::run(&rt)?;
+    input::run(&rt, &cases)?;
+    writes::run(&rt)
 }

@@ -2,6 +2,7 @@
 use crate::case::{FULL, read_into};
 use crate::{line, marks};
 use filewrite::Written;
+use std::io;
 use tables::{Head, TABLES};
 use text::line::put_bytes;
 
@@ -29,22 +30,34 @@ const HEAD: Head = Head {
 };
 
 // What a write into marked bytes answers, and how many of them it changed.
-fn show(name: &[u8], written: Written, out: &[u8]) {
-    line::written(name, written);
-    line::count(b" bytes ", marks::changed_bytes(out));
-    line::text(b"\n");
+fn show(rt: &HostRuntime, name: &[u8], written: Written, out: &[u8]) -> io::Result<()> {
+    line::written(rt, name, written)?;
+    line::count(rt, b" bytes ", marks::changed_bytes(out))?;
+    line::text(rt, b"\n")
 }
 
-fn write_and_show<'a>(name: &[u8], head: Head, tables: [&'a [u64]; TABLES], out: &mut [u8]) {
+fn write_and_show<'a>(
+    rt: &HostRuntime,
+    name: &[u8],
+    head: Head,
+    tables: [&'a [u64]; TABLES],
+    out: &mut [u8],
+) -> io::Result<()> {
     let written = filewrite::write(head, tables, out);
-    show(name, written, out);
+    show(rt, name, written, out)
 }
 
 // A month that is written into so many lent bytes, 256 at most.
-fn write_into<'a>(name: &[u8], head: Head, tables: [&'a [u64]; TABLES], bytes: usize) {
+fn write_into<'a>(
+    rt: &HostRuntime,
+    name: &[u8],
+    head: Head,
+    tables: [&'a [u64]; TABLES],
+    bytes: usize,
+) -> io::Result<()> {
     let mut out = [marks::BYTE; 256];
     let size = marks::least(256, bytes);
-    write_and_show(name, head, tables, &mut out[..size]);
+    write_and_show(rt, name, head, tables, &mut out[..size])
 }
 
 // Tables of so many of some words, by the table's place, written to the front of lent bytes.
@@ -60,36 +73,52 @@ fn write_fronts<'a>(words: &'a [u64], sizes: [usize; TABLES], out: &mut [u8]) ->
 }
 
 // The text of tables of so many zeros, by the table's place, up to a place, and a piece from there on, which is read.
-pub(crate) fn read_zeros(name: &[u8], sizes: [usize; TABLES], at: usize, piece: &[u8]) {
+pub(crate) fn read_zeros(
+    rt: &HostRuntime,
+    name: &[u8],
+    sizes: [usize; TABLES],
+    at: usize,
+    piece: &[u8],
+) -> io::Result<()> {
     let mut text = [0u8; 32_768];
     let start = marks::least(32_384, at);
     let size = marks::least(384, piece.len());
     write_fronts(&[0u64; 4_960], sizes, &mut text);
     put_bytes(&piece[..size], &mut text, start);
-    read_into(name, &text[..start + size], FULL, 4_961);
+    read_into(rt, name, &text[..start + size], FULL, 4_961)
 }
 
 // Tables of so many zeros, by the table's place, written into so many lent bytes.
-pub(crate) fn write_zeros(name: &[u8], sizes: [usize; TABLES], bytes: usize) {
+pub(crate) fn write_zeros(
+    rt: &HostRuntime,
+    name: &[u8],
+    sizes: [usize; TABLES],
+    bytes: usize,
+) -> io::Result<()> {
     let mut out = [marks::BYTE; 32_768];
     let size = marks::least(32_768, bytes);
-    write_zeros_into(name, sizes, &mut out[..size]);
+    write_zeros_into(rt, name, sizes, &mut out[..size])
 }
 
-fn write_zeros_into(name: &[u8], sizes: [usize; TABLES], out: &mut [u8]) {
+fn write_zeros_into(
+    rt: &HostRuntime,
+    name: &[u8],
+    sizes: [usize; TABLES],
+    out: &mut [u8],
+) -> io::Result<()> {
     let written = write_fronts(&[0u64; 4_965], sizes, out);
-    show(name, written, out);
+    show(rt, name, written, out)
 }
 
-fn room<'a>(case: [&'a [u64]; TABLES]) {
-    write_into(b"write case S into no bytes", HEAD, case, 0);
-    write_into(b"write case S into 197 bytes", HEAD, case, 197);
-    write_into(b"write case S into 198 bytes", HEAD, case, 198);
-    write_into(b"write case S into 256 bytes", HEAD, case, 256);
+fn room<'a>(rt: &HostRuntime, case: [&'a [u64]; TABLES]) -> io::Result<()> {
+    write_into(rt, b"write case S into no bytes", HEAD, case, 0)?;
+    write_into(rt, b"write case S into 197 bytes", HEAD, case, 197)?;
+    write_into(rt, b"write case S into 198 bytes", HEAD, case, 198)?;
+    write_into(rt, b"write case S into 256 bytes", HEAD, case, 256)
 }
 
 // No range is judged: the head's seven numbers are 2^64-1, 132 bytes more than in a month with case S's head and no rows.
-fn large_head<'a>(none: &'a [u64]) {
+fn large_head<'a>(rt: &HostRuntime, none: &'a [u64]) -> io::Result<()> {
     let most = 18_446_744_073_709_551_615;
     let head = Head {
         month: most,
@@ -102,29 +131,34 @@ fn large_head<'a>(none: &'a [u64]) {
     };
     let tables = [none; TABLES];
     write_into(
+        rt,
         b"write 2^64-1 seven times into 200 bytes",
         head,
         tables,
         200,
-    );
+    )?;
     write_into(
+        rt,
         b"write 2^64-1 seven times into 201 bytes",
         head,
         tables,
         201,
-    );
+    )
 }
 
-pub(crate) fn run() {
-    room([
-        &ZONES,
-        &OWNERS,
-        &UNITS,
-        &ACCOUNTS,
-        &LOADS,
-        &RESERVATIONS,
-        &[],
-    ]);
-    write_zeros(b"write every table full into 28631 bytes", FULL, 28_631);
-    large_head(&[]);
+pub(crate) fn run(rt: &HostRuntime) -> io::Result<()> {
+    room(
+        rt,
+        [
+            &ZONES,
+            &OWNERS,
+            &UNITS,
+            &ACCOUNTS,
+            &LOADS,
+            &RESERVATIONS,
+            &[],
+        ],
+    )?;
+    write_zeros(rt, b"write every table full into 28631 bytes", FULL, 28_631)?;
+    large_head(rt, &[])
 }

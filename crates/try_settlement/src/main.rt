@@ -6,20 +6,22 @@
 // service decides it, what stays BASE and what becomes BIG. Then firm service: a week at its bound, its refusals, and its division,
 // which is place 13. The file `stdin` beside `src/` has the cases, each a line with a name, a month file and an empty line; `stdout`
 // has what must come by the paper, and the gate holds one to the other.
-ghost use Rattle.std.specs.Prelude.{◌+◌, ◌≤◌, ◌<◌, min, length};
+#![tactic(auto)]
 
-use libc::{STDIN_FILENO, STDOUT_FILENO};
+ghost use Rattle.std.specs.Prelude.{◌+◌, ◌≤◌, ◌<◌, min, length, IfOk};
+
+use std::io;
+use std::io::Read;
 
 // The place behind the line that starts at `from`, at most the end.
 fn behind_line(cases: &[u8], from: usize) -> usize
     requires { from ≤ length cases.now }
     ensures { (min (from + 1) (length cases.now) ≤ result) × (result ≤ length cases.now) }
 {
-    let end = bytes::scan::find(cases, from, cases.len(), b'\n');
-    if end < cases.len() {
-        return end + 1;
+    match memchr::memchr(b'\n', &cases[from..]) {
+        Some(at) => from + at + 1,
+        None => cases.len(),
     }
-    end
 }
 
 // The place behind the month file that starts at `from`: that of the next empty line, or the end.
@@ -38,30 +40,31 @@ fn behind_file(cases: &[u8], from: usize) -> usize
 }
 
 // Writes the name of the case that starts at `from` and the statement of its month, and answers the place behind the case.
-fn show(cases: &[u8], from: usize) -> usize
+fn show(rt: &HostRuntime, cases: &[u8], from: usize) -> io::Result<usize>
     requires { from < length cases.now }
-    ensures { (from < result) × (result ≤ length cases.now) }
+    ensures { IfOk result (λ next. (from < next) × (next ≤ length cases.now)) }
 {
     let start = behind_line(cases, from);
     let end = behind_file(cases, start);
-    io::write_all(STDOUT_FILENO, &cases[from..start]);
+    rt.write_all(&cases[from..start])?;
     let mut out = [0u8; 1_024];
     let shown = statement_text::statement(&cases[start..end], &mut out);
     let length = shown.length;
-    io::write_all(STDOUT_FILENO, &out[..length]);
-    behind_line(cases, end)
+    rt.write_all(&out[..length])?;
+    Ok(behind_line(cases, end))
 }
 
 // Every case in turn.
-fn show_all(cases: &[u8]) {
+fn show_all(rt: &HostRuntime, cases: &[u8]) -> io::Result<()> {
     let mut at = 0;
     while at < cases.len() {
-        at = show(cases, at);
+        at = show(rt, cases, at)?;
     }
+    Ok(())
 }
 
-fn main() {
-    let mut input = [0u8; 16_384];
-    let count = io::read_full(STDIN_FILENO, &mut input);
-    show_all(&input[..count]);
+fn main(rt: HostRuntime) -> io::Result<()> {
+    let mut input = Vec::new(rt.alloc());
+    rt.stdin().read_to_end(&mut input)?;
+    show_all(&rt, &input)
 }
