@@ -29,13 +29,13 @@ fn main() {
 fn archive_place() -> PathBuf {
     match env::var_os("NOKETUALO_ARCHIVE") {
         Some(path) if !path.is_empty() => PathBuf::from(path),
-        _ => Path::new(env!("CARGO_MANIFEST_DIR")).with_file_name("target/staticlib/libhost.a"),
+        _ => Path::new(env!("CARGO_MANIFEST_DIR")).with_file_name("crates/host/out/libhost.a"),
     }
 }
 
 fn stop(place: &Path, why: &str) -> ! {
     eprintln!("The archive {} can't be linked: {why}.", place.display());
-    eprintln!("Run `rt staticlib host` at the repository's root to build it.");
+    eprintln!("Run `rt lib` in the folder crates/host to build it.");
     eprintln!("To link another archive, name its absolute path in NOKETUALO_ARCHIVE.");
     process::exit(1);
 }

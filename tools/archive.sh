@@ -7,5 +7,5 @@ if [[ -n "${NOKETUALO_ARCHIVE:-}" ]]; then
     NOKETUALO_ARCHIVE=$(realpath -- "$NOKETUALO_ARCHIVE")
     export NOKETUALO_ARCHIVE
 elif command -v rt >/dev/null; then
-    (cd "$root" && rt staticlib host)
+    (cd "$root/crates/host" && rt lib)
 fi

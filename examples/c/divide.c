@@ -1,6 +1,6 @@
 /*
  * Divides 100 cents by 1, 1, 1, prints the shares, and has the check judge them.
- * From the repository's root: cc -Iinclude examples/c/divide.c target/staticlib/libhost.a -o target/c-divide
+ * From the repository's root, with a folder target: cc -Iinclude examples/c/divide.c crates/host/out/libhost.a -o target/c-divide
  */
 #include <inttypes.h>
 #include <stdio.h>

@@ -1,6 +1,6 @@
 /*
  * Prints the statement of the month file on standard input.
- * From the repository's root: cc -Iinclude examples/c/statement.c target/staticlib/libhost.a -o target/c-statement
+ * From the repository's root, with a folder target: cc -Iinclude examples/c/statement.c crates/host/out/libhost.a -o target/c-statement
  */
 #include <stdio.h>
 

@@ -2,7 +2,7 @@
 //! cent, and checking a division that someone else made.
 //!
 //! The work is done by Noketualo's proved core, which this crate links as a static library (built
-//! by `rt staticlib host`). The crate lends it memory and opens its answers; it settles and divides
+//! by `rt lib` in `crates/host`). The crate lends it memory and opens its answers; it settles and divides
 //! nothing.
 //!
 //! ```

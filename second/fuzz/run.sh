@@ -9,7 +9,7 @@ set -euo pipefail
 
 seconds=${1:-60}
 second=$(cd "$(dirname "${BASH_SOURCE[0]}")/.." && pwd)
-archive=${NOKETUALO_ARCHIVE:-$second/../target/staticlib/libhost.a}
+archive=${NOKETUALO_ARCHIVE:-$second/../crates/host/out/libhost.a}
 clang=${CC:-clang}
 work=${NOKETUALO_FUZZ_FOLDER:-$second/../target/fuzz}
 
@@ -18,7 +18,7 @@ if ! command -v "$clang" >/dev/null; then
     exit 1
 fi
 if [[ ! -f "$archive" ]]; then
-    echo "There is no archive $archive: run \`rt staticlib host\` at the repository's root." >&2
+    echo "There is no archive $archive: run \`rt lib\` in the folder crates/host." >&2
     exit 1
 fi
 
