@@ -1,6 +1,10 @@
 -- The refusals' numbers and the tables' numbers, as the paper's lists have them.
 -- Assumes nothing.
 use Rattle.std.specs.Prelude.{ℕ}
+use Rattle.answer.specs.declared.Refusal.{Refusal}
+use Rattle.answer.specs.declared.Refusal.TheVariants.{Count, Room, Month, Range, Order, Link, Pair, Big, Base, Text}
+use Rattle.answer.specs.declared.Part.{Part}
+use Rattle.answer.specs.declared.Part.TheVariants.{Head, Zones, Owners, Units, Accounts, Loads, Reservations, Charges, Credits, Divisions, Firm}
 
 abbrev pub COUNT : ℕ
 COUNT = 1
@@ -64,3 +68,30 @@ DIVISIONS = 9
 
 abbrev pub FIRM : ℕ
 FIRM = 10
+
+-- the number of a refusal
+abbrev pub refusal_number : Refusal → ℕ
+refusal_number Count = COUNT
+refusal_number Room = ROOM
+refusal_number Month = MONTH
+refusal_number Range = RANGE
+refusal_number Order = ORDER
+refusal_number Link = LINK
+refusal_number Pair = PAIR
+refusal_number Big = BIG
+refusal_number Base = BASE
+refusal_number Text = TEXT
+
+-- the number of what it speaks of
+abbrev pub part_number : Part → ℕ
+part_number Head = HEAD
+part_number Zones = ZONES
+part_number Owners = OWNERS
+part_number Units = UNITS
+part_number Accounts = ACCOUNTS
+part_number Loads = LOADS
+part_number Reservations = RESERVATIONS
+part_number Charges = CHARGES
+part_number Credits = CREDITS
+part_number Divisions = DIVISIONS
+part_number Firm = FIRM

@@ -1,102 +1,151 @@
-// What every call answers: a number, a table and a row, all zero where the call is accepted, and the ten refusals and the
-// tables by name. Looks are taken in turn, and the first one that finds a fault gives the answer: `look` and `in_turn` are what
-// every judgement of rows, tables and divisions is made of.
+// What every call answers. A call that refuses says which of the paper's ten refusals it is, in which table or output, and at which
+// row; one that accepts hands over what it found. `Answer` is the same as three numbers, all zero where the call is accepted. Looks
+// are taken in turn, and the first one that finds a fault ends the call: `specs/Turns.antt` says what that comes to.
 #![tactic(auto)]
 
 ghost use Rattle.std.specs.Prelude.{◌≡◌};
-ghost use Rattle.answer.specs.Turns.{look, refuse, ◌then◌};
+ghost use Rattle.answer.specs.Numbers.{refusal_number, part_number};
+ghost use Rattle.answer.specs.Results.{Placed};
 
-#[derive(Clone, Copy)]
+use std::fmt;
+
+// Why a call is refused.
+#[derive(Clone, Copy, Debug, PartialEq, Eq)]
+pub enum Refusal {
+    Count = 1,
+    Room = 2,
+    Month = 3,
+    Range = 4,
+    Order = 5,
+    Link = 6,
+    Pair = 7,
+    Big = 8,
+    Base = 9,
+    Text = 10,
+}
+
+// What a refusal speaks of: the head, a table, one of the two outputs, or the divisions of a month.
+#[derive(Clone, Copy, Debug, PartialEq, Eq)]
+pub enum Part {
+    Head = 0,
+    Zones = 1,
+    Owners = 2,
+    Units = 3,
+    Accounts = 4,
+    Loads = 5,
+    Reservations = 6,
+    Charges = 7,
+    Credits = 8,
+    Divisions = 9,
+    Firm = 10,
+}
+
+impl Refusal {
+    // The paper's number.
+    pub fn number(self) -> u64
+        ensures { result ≡ refusal_number self }
+    {
+        self as u64
+    }
+
+    // This refusal at a place.
+    pub fn at(self, part: Part, row: u64) -> Refused
+        ensures { result ≡ record { refusal = self; part = part; row = row } }
+    {
+        Refused {
+            refusal: self,
+            part,
+            row,
+        }
+    }
+}
+
+impl Part {
+    // The paper's number.
+    pub fn number(self) -> u64
+        ensures { result ≡ part_number self }
+    {
+        self as u64
+    }
+}
+
+// The paper's name of a refusal.
+impl fmt::Display for Refusal {
+    fn fmt<W: fmt::Write>(&self, f: &mut fmt::Formatter<W>) -> fmt::Result {
+        f.write_str(match self {
+            Refusal::Count => "COUNT",
+            Refusal::Room => "ROOM",
+            Refusal::Month => "MONTH",
+            Refusal::Range => "RANGE",
+            Refusal::Order => "ORDER",
+            Refusal::Link => "LINK",
+            Refusal::Pair => "PAIR",
+            Refusal::Big => "BIG",
+            Refusal::Base => "BASE",
+            Refusal::Text => "TEXT",
+        })
+    }
+}
+
+// A refused call: why, and where.
+#[derive(Clone, Copy, Debug, PartialEq, Eq)]
+pub struct Refused {
+    pub refusal: Refusal,
+    pub part: Part,
+    pub row: u64,
+}
+
+// An outcome whose refusal has no place, with the place that its caller gives it.
+pub fn placed<T>(outcome: Result<T, Refusal>, part: Part, row: u64) -> Result<T, Refused>
+    ensures { Placed outcome part row result }
+{
+    match outcome {
+        Ok(found) => Ok(found),
+        Err(refusal) => Err(refusal.at(part, row)),
+    }
+}
+
+// The paper's answer to a call: three numbers, all zero where it is accepted.
+#[derive(Clone, Copy, Debug, PartialEq, Eq)]
 pub struct Answer {
     pub number: u64,
     pub table: u64,
     pub row: u64,
 }
 
-// The number of an accepted call, and of each refusal.
-pub const ACCEPTED: u64 = 0;
+impl From<Refused> for Answer {
+    ghost use Rattle.answer.specs.Results.{GivesRefused};
 
-pub const COUNT: u64 = 1;
+    ghost from_gives = { GivesRefused };
 
-pub const ROOM: u64 = 2;
-
-pub const MONTH: u64 = 3;
-
-pub const RANGE: u64 = 4;
-
-pub const ORDER: u64 = 5;
-
-pub const LINK: u64 = 6;
-
-pub const PAIR: u64 = 7;
-
-pub const BIG: u64 = 8;
-
-pub const BASE: u64 = 9;
-
-pub const TEXT: u64 = 10;
-
-// The number of each table, of the two outputs, and of the divisions of a month.
-pub const HEAD: u64 = 0;
-
-pub const ZONES: u64 = 1;
-
-pub const OWNERS: u64 = 2;
-
-pub const UNITS: u64 = 3;
-
-pub const ACCOUNTS: u64 = 4;
-
-pub const LOADS: u64 = 5;
-
-pub const RESERVATIONS: u64 = 6;
-
-pub const CHARGES: u64 = 7;
-
-pub const CREDITS: u64 = 8;
-
-pub const DIVISIONS: u64 = 9;
-
-pub const FIRM: u64 = 10;
-
-// The answer with a number at a place; where the number is 0 nothing is refused and the place is 0 too.
-pub fn refused(number: u64, table: u64, row: u64) -> Answer
-    ensures { result ≡ refuse number table row }
-{
-    if number == ACCEPTED {
-        return Answer {
-            number: ACCEPTED,
-            table: HEAD,
-            row: 0,
-        };
+    fn from(refused: Refused) -> Answer {
+        Answer {
+            number: refused.refusal.number(),
+            table: refused.part.number(),
+            row: refused.row,
+        }
     }
-    Answer { number, table, row }
 }
 
-// The first of two answers that refuses; accepted where both accept.
-pub fn in_turn(first: Answer, second: Answer) -> Answer
-    ensures { result ≡ (first then second) }
-{
-    let number = first.number;
-    if number == ACCEPTED {
-        return second;
+impl<T: Drop> From<Result<T, Refused>> for Answer {
+    ghost use Rattle.answer.specs.Results.{GivesAnswer};
+
+    ghost from_gives = { GivesAnswer };
+
+    fn from(outcome: Result<T, Refused>) -> Answer {
+        match outcome {
+            Ok(_) => Answer {
+                number: 0,
+                table: 0,
+                row: 0,
+            },
+            Err(refused) => Answer::from(refused),
+        }
     }
-    first
 }
 
-// A look: its number where the fault is there, else what the next look finds.
-pub fn look(fault: bool, number: u64, next: u64) -> u64
-    ensures { result ≡ look fault number next }
-{
-    if fault {
-        return number;
+impl fmt::Display for Answer {
+    fn fmt<W: fmt::Write>(&self, f: &mut fmt::Formatter<W>) -> fmt::Result {
+        write!(f, "{},{},{}", self.number, self.table, self.row)
     }
-    next
-}
-
-// A number at row 0 of a table, behind the answer so far.
-pub fn look_at(before: Answer, number: u64, table: u64) -> Answer
-    ensures { result ≡ (before then refuse number table 0) }
-{
-    in_turn(before, refused(number, table, 0))
 }

@@ -2,12 +2,14 @@
 -- where the digit is 1. Weight and whole are stretched by a factor that brings the whole close to 2^62, so that the top two
 -- bits of a number tell how many wholes to take off it.
 -- Assumes nothing.
-use mathlib.Core.Path.{◌≡◌, sym, ap, ◌∙◌}
-use Prim.Native.Nat.{ℕ, ◌+◌, ◌*◌, ◌/◌, ◌%◌, ◌-◌, ◌^◌, ◌≤◌, ◌<◌}
+use mathlib.Core.Path.{◌≡◌, refl, sym, ap, ◌∙◌}
+use mathlib.Core.List.{[], ◌∷◌}
+use Prim.Native.Nat.{ℕ, zero, suc, ◌+◌, ◌*◌, ◌/◌, ◌%◌, ◌-◌, ◌^◌, ◌≤◌, ◌<◌}
 use native.Mathlib.Nat.{div-add-mod, div-add-mod', div-mul-le_self, mod-lt, div-eq_of_lt, div-one, mul-le-mul, mul-le-mul_left, mul-div-le, le_refl, le_trans, le_of_mul-le-mul_left, le_of_mul-le-mul_right, lt_of_mul-lt-mul_left, div-eq_of_eq-mul_right, mod-eq_of_lt}
 use native.Mathlib.Omega.{arith}
 use mathlib.Core.Logic.{⊎_elim}
 use Rattle.lists.proofs.Ranks.{lt_or_le}
+use lib.ListN.{get_or}
 use lib.Bits.{bit_and, and_mask, and_zero_r}
 use lib.Arith.{digits_div, digits_mod}
 use lib.Count.{count_leading_zeros, leading_length}
@@ -55,6 +57,12 @@ let_through digit gain one fits =
     ap (λ d. bit_and gain (d * (2 ^ 64 - 1))) is_one ∙ and_mask gain 64 ∙ mod-eq_of_lt fits
     ∙ (let e : gain ≡ digit * gain = omega (arith, ap (λ d. d * gain) is_one) in e))
     (lt_or_le digit 1)
+
+-- the mask of a digit
+pub mask_is : (digit : ℕ) → digit ≤ 1 → get_or (0 ∷ (2 ^ 64 - 1) ∷ []) digit 0 ≡ digit * (2 ^ 64 - 1)
+mask_is zero one = refl
+mask_is (suc zero) one = refl
+mask_is (suc (suc n)) one = absurd (omega arith)
 
 -- the factor brings the whole close to 2^62
 pub record Stretch (factor whole : ℕ) : Type 0 where

@@ -1,4 +1,5 @@
 pub mod Doubling
+pub mod Several
 pub mod Bits
 pub mod Bounds
 pub mod Stretches

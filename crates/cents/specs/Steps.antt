@@ -1,11 +1,11 @@
 -- What the functions on the way to a pot dealt out say among themselves. A reader who wants to know what `deal` promises needs
 -- none of it.
 -- Assumes nothing.
-use Rattle.std.specs.Prelude.{◌≡◌, ℕ, ◌+◌, ◌-◌, ◌*◌, ◌/◌, ◌%◌, ◌^◌, ◌≤◌, ◌<◌, List, ◌⊎◌, ltb, length, set}
+use Rattle.std.specs.Prelude.{◌≡◌, ℕ, ◌+◌, ◌-◌, ◌*◌, ◌/◌, ◌%◌, ◌^◌, ◌≤◌, ◌<◌, List, ◌⊎◌, ltb, length, get_or, set}
 use Rattle.lists.specs.Sums.{sum_to, at, bit, count}
 use Rattle.lists.specs.Entries.{put}
 use Rattle.cents.specs.Dealt.{most, places, cents_of, key_of}
-use Rattle.cents.specs.declared.quotients.Parts.{Parts}
+use Rattle.cents.specs.declared.quotients.Part.{Part}
 
 -- a step of a long division starts from a quotient and a rest such that nothing it computes leaves 64 bits: the whole is hardly
 -- below 2^62, and the rest hardly above
@@ -27,17 +27,19 @@ pub record TakenOff (cents rest whole cents' rest' : ℕ) : Type 0 where
   pub adds_up : cents' * whole + rest' ≡ cents * whole + rest
   pub below : rest < whole + whole → rest' < whole
 
+-- the part at a position of several, nothing past their end
+abbrev pub part_at : List Part → ℕ → Part
+part_at parts k = get_or parts k (record { cents = 0; rest = 0 })
+
 -- the whole part of pot times weight over the whole, and the remainder
 pub record Quotient (pot weight whole cents rest : ℕ) : Type 0 where
   pub cents_are : cents ≡ pot * weight / whole
   pub rest_is : rest ≡ pot * weight % whole
 
--- the same of four weights
-pub record Quotients (pot first second third fourth whole : ℕ) (r : Parts) : Type 0 where
-  pub at_first : Quotient pot first whole r.first.cents r.first.rest
-  pub at_second : Quotient pot second whole r.second.cents r.second.rest
-  pub at_third : Quotient pot third whole r.third.cents r.third.rest
-  pub at_fourth : Quotient pot fourth whole r.fourth.cents r.fourth.rest
+-- the same of each of several weights
+abbrev pub Quotients : ℕ → List ℕ → ℕ → List Part → Type 0
+Quotients pot weights whole parts =
+    (k : ℕ) → k < length weights → Quotient pot (at weights k) whole (part_at parts k).cents (part_at parts k).rest
 
 -- room for each weight's cents and key
 pub record Room (weights out keys : List ℕ) : Type 0 where

@@ -1,5 +1,5 @@
 // Each weight's share cut down to whole cents, and what that cuts off kept with its place.
-ghost use Rattle.std.specs.Prelude.{◌*◌, ◌/◌, ◌≤◌, ◌<◌, ◌+◌, length};
+ghost use Rattle.std.specs.Prelude.{◌+◌, ◌-◌, ◌*◌, ◌/◌, ◌≤◌, ◌<◌, length};
 ghost use Rattle.cents.specs.Dealt.{most, places, Base};
 ghost use Rattle.cents.specs.Steps.{Room, PartKept, Cut, CutDown};
 
@@ -21,70 +21,8 @@ fn keep(part: Part, i: usize, out: &mut [u64], keys: &mut [u64]) -> u64
     part.cents
 }
 
-// Cuts one weight's share down to whole cents, and gives these back.
-fn cut_one(
-    pot: u64,
-    weights: &[u64],
-    whole: u64,
-    i: usize,
-    out: &mut [u64],
-    keys: &mut [u64],
-) -> u64
-    requires base { Base pot weights.now whole }
-    requires room { Room weights.now out.old keys.old }
-    requires i_in_bounds { i < length weights.now }
-    ensures { Cut pot weights.now whole i (i + 1) out.old out.new keys.old keys.new result }
-{
-    let part = quotients::quotient(pot, weights[i], whole);
-    keep(part, i, out, keys)
-}
-
-// The same for four weights at once.
-fn cut_four(
-    pot: u64,
-    weights: &[u64],
-    whole: u64,
-    i: usize,
-    out: &mut [u64],
-    keys: &mut [u64],
-) -> u64
-    requires base { Base pot weights.now whole }
-    requires room { Room weights.now out.old keys.old }
-    requires i_in_bounds { i + 3 < length weights.now }
-    ensures { Cut pot weights.now whole i (i + 4) out.old out.new keys.old keys.new result }
-{
-    let parts = quotients::quotients(
-        pot,
-        weights[i],
-        weights[i + 1],
-        weights[i + 2],
-        weights[i + 3],
-        whole,
-    );
-    let first = keep(parts.first, i, out, keys);
-    let second = keep(parts.second, i + 1, out, keys);
-    let third = keep(parts.third, i + 2, out, keys);
-    let fourth = keep(parts.fourth, i + 3, out, keys);
-    first + second + third + fourth
-}
-
-// Four weights at a time, as long as there are four.
-fn cut_fours(pot: u64, weights: &[u64], whole: u64, out: &mut [u64], keys: &mut [u64]) -> u64
-    requires base { Base pot weights.now whole }
-    requires room { Room weights.now out.old keys.old }
-    ensures { Cut pot weights.now whole 0 (4 * (length weights.now / 4)) out.old out.new keys.old keys.new result }
-{
-    let mut given: u64 = 0;
-    let mut k = 0;
-    while k < weights.len() / 4 {
-        given += cut_four(pot, weights, whole, 4 * k, out, keys);
-        k += 1;
-    }
-    given
-}
-
-// The weights from a position on, one at a time.
-fn cut_rest(
+// Cuts the shares of N weights from a position on down to whole cents, and gives these back.
+fn cut<const N: usize>(
     pot: u64,
     weights: &[u64],
     whole: u64,
@@ -94,14 +32,34 @@ fn cut_rest(
 ) -> u64
     requires base { Base pot weights.now whole }
     requires room { Room weights.now out.old keys.old }
-    requires from_within { from ≤ length weights.now }
-    ensures { Cut pot weights.now whole from (length weights.now) out.old out.new keys.old keys.new result }
+    requires from_within { from + N ≤ length weights.now }
+    ensures { Cut pot weights.now whole from (from + N) out.old out.new keys.old keys.new result }
+{
+    let parts: [Part; N] = quotients::quotients(pot, &weights[from..from + N], whole);
+    let mut given: u64 = 0;
+    for k in 0..N {
+        given += keep(parts[k], from + k, out, keys);
+    }
+    given
+}
+
+// The weights from a position on, N at a time as long as there are N.
+fn cut_by<const N: usize>(
+    pot: u64,
+    weights: &[u64],
+    whole: u64,
+    from: usize,
+    out: &mut [u64],
+    keys: &mut [u64],
+) -> u64
+    requires base { Base pot weights.now whole }
+    requires room { Room weights.now out.old keys.old }
+    requires from_within { (0 < N) × (from ≤ length weights.now) }
+    ensures { Cut pot weights.now whole from (from + (length weights.now - from) / N * N) out.old out.new keys.old keys.new result }
 {
     let mut given: u64 = 0;
-    let mut i = from;
-    while i < weights.len() {
-        given += cut_one(pot, weights, whole, i, out, keys);
-        i += 1;
+    for k in 0..(weights.len() - from) / N {
+        given += cut::<N>(pot, weights, whole, from + k * N, out, keys);
     }
     given
 }
@@ -112,7 +70,7 @@ pub fn cut_down(pot: u64, weights: &[u64], whole: u64, out: &mut [u64], keys: &m
     requires room { Room weights.now out.old keys.old }
     ensures { CutDown pot weights.now whole out.old out.new keys.old keys.new result }
 {
-    let by_four = cut_fours(pot, weights, whole, out, keys);
-    let by_one = cut_rest(pot, weights, whole, 4 * (weights.len() / 4), out, keys);
+    let by_four = cut_by::<4>(pot, weights, whole, 0, out, keys);
+    let by_one = cut_by::<1>(pot, weights, whole, weights.len() / 4 * 4, out, keys);
     by_four + by_one
 }

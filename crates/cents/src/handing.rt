@@ -9,14 +9,13 @@ ghost use Rattle.cents.specs.Steps.{larger, Between, Settling, handed};
 const TOP: u64 = 9_223_372_036_854_775_808;
 
 // How many keys are larger than this one.
+#[tactic(auto, using(lists::proofs::Sums::sum_none, lists::proofs::Sums::sum_suc, lists::proofs::Sums::count_le, lists::proofs::Sums::bit_le, crate::proofs::Bits::bit_of))]
 fn standing(keys: &[u64], key: u64) -> u64
     ensures { result ≡ larger keys.now key }
 {
     let mut before: u64 = 0;
-    let mut i = 0;
-    while i < keys.len() {
-        before += (key < keys[i]) as u64;
-        i += 1;
+    for &other in keys {
+        before += (key < other) as u64;
     }
     before
 }
@@ -30,25 +29,23 @@ struct Bounds {
 
 // Settles a key. Where one gets a cent so do all larger ones, and where one gets none neither do the smaller: so in most lists
 // few keys are counted.
+#[tactic(auto, using(crate::proofs::Standing::as_known, crate::proofs::Standing::gets_one, crate::proofs::Standing::gets_none))]
 fn narrowed(left: u64, keys: &[u64], key: u64, bounds: Bounds) -> Bounds
     requires { (key < 2 ^ 63) × Between left keys.now bounds.low bounds.high }
     ensures { Settling left keys.now key result.low result.high }
 {
-    if key < bounds.low {
-        return bounds;
-    }
-    if bounds.high <= key {
+    if key < bounds.low || bounds.high <= key {
         return bounds;
     }
     if standing(keys, key) < left {
         return Bounds {
-            low: bounds.low,
             high: key,
+            ..bounds
         };
     }
     Bounds {
         low: key + 1,
-        high: bounds.high,
+        ..bounds
     }
 }
 
@@ -81,11 +78,8 @@ pub fn hand_out(left: u64, keys: &[u64], out: &mut [u64])
     ensures { out.new ≡ put (length keys.now) (handed left keys.now out.old) out.old }
 {
     let mut bounds = first_bounds(left, keys);
-    let mut i = 0;
-    while i < keys.len() {
-        let key = keys[i];
+    for (i, &key) in keys.iter().enumerate() {
         bounds = narrowed(left, keys, key, bounds);
         out[i] += (bounds.high <= key) as u64;
-        i += 1;
     }
 }

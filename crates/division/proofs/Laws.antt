@@ -30,7 +30,7 @@ use Rattle.division.proofs.Refusals as refusals
 use Rattle.division.proofs.Reasons as reasons
 use Rattle.division.proofs.Members.{no_quotient, no_remainder, share_alone, total_kept}
 -- the number of a call with the right counts, what it leaves in the lent words, and a sum that stops at one above its limit
-pub use Rattle.division.proofs.Refusals.{by_size, memory_accepted, memory_refused, number_is, sum_is}
+pub use Rattle.division.proofs.Refusals.{by_size, capped_size, memory_accepted, memory_refused, sum_is}
 -- sizes that are not refused, and why others are
 pub use Rattle.division.proofs.Handed.{sized}
 pub use Rattle.division.proofs.Reasons.{size_why, why_size, size_within, fits_size}

@@ -1,19 +1,25 @@
 -- What is promised of every division, beyond its definition. Nothing else stands here; the proofs cite `Parts`, `Refusals`, `Reasons`
 -- and `Passing`.
 -- Assumes nothing.
-use mathlib.Core.Path.{◌≡◌, sym, ◌∙◌}
+use mathlib.Core.Path.{◌≡◌, sym, ap, ◌∙◌}
 use mathlib.Core.Logic.{◌⊎◌, ◌↔◌, ◌≢◌}
 use mathlib.Core.Bool.{true}
 use mathlib.Core.List.{List, ◌++◌}
 use Prim.Native.Nat.{ℕ, ◌+◌, ◌≤◌, ◌<◌}
 use lib.ListN.{length, drop}
 use Rattle.lists.specs.Sums.{at, total, count, bit}
+use Rattle.std.specs.Prelude.{Result}
+use Rattle.answer.specs.declared.Refusal.{Refusal}
+use Rattle.answer.specs.declared.Part.TheVariants.{Head}
+use Rattle.answer.specs.Numbers.{HEAD}
+use Rattle.answer.specs.Turns.{refuse}
+use Rattle.answer.specs.Results.{result_number, result_answer, place_result}
+use Rattle.answer.proofs.Results.{placed_answer}
 use Rattle.closeness.specs.Closeness.{distance}
 use Rattle.division.specs.Limits.{most_weights, divide_refusal}
 use Rattle.division.specs.Shares.{quotient, remainder, leftover, gets_cent, share, shares, Divided}
 use Rattle.division.specs.Refused.{FineSize, DivideRefused}
-use Rattle.division.specs.declared.Division.{Division}
-use Rattle.division.proofs.Refusals.{memory_accepted, memory_refused}
+use Rattle.division.proofs.Refusals.{memory_accepted, memory_refused, refuse_nowhere}
 use Rattle.division.proofs.Reasons as reasons
 use Rattle.division.proofs.Parts as parts
 use Rattle.division.proofs.Passing as passing
@@ -31,18 +37,21 @@ pub divide_refused_why : (pot : ℕ) (weights : List ℕ) (room n : ℕ)
 divide_refused_why pot weights room n = (reasons.divide_why pot weights room n, reasons.why_divide pot weights room n)
 
 -- "table and row are 0" in the answer of every division
-pub divide_answers : (pot : ℕ) (weights before after : List ℕ) (r : Division) → Divided pot weights before after r
-    → r.answer ≡ record { number = divide_refusal pot weights (length before); table = 0; row = 0 }
-divide_answers pot weights before after r d = λ i. record { number = d.number i; table = d.table i; row = d.row i }
+pub divide_answers : (pot : ℕ) (weights before after : List ℕ) (r : Result (Unit {0}) Refusal) → Divided pot weights before after (result_number r)
+    → result_answer (place_result r Head 0) ≡ record { number = divide_refusal pot weights (length before); table = 0; row = 0 }
+divide_answers pot weights before after r d =
+    placed_answer r Head 0
+    ∙ ap (λ n. refuse n HEAD 0) d.number
+    ∙ refuse_nowhere (divide_refusal pot weights (length before))
 
 -- "A refusal writes to no lent memory" ..
-pub refused_writes_nothing : (pot : ℕ) (weights before after : List ℕ) (r : Division) → Divided pot weights before after r
-    → r.answer.number ≢ 0 → after ≡ before
+pub refused_writes_nothing : (pot : ℕ) (weights before after : List ℕ) (r : ℕ) → Divided pot weights before after r
+    → r ≢ 0 → after ≡ before
 refused_writes_nothing pot weights before after r d n = d.lent ∙ memory_refused pot weights before (λ z. n (d.number ∙ z))
 
 -- .. and acceptance the shares alone, with what was lent behind them
-pub accepted_writes_shares : (pot : ℕ) (weights before after : List ℕ) (r : Division) → Divided pot weights before after r
-    → r.answer.number ≡ 0 → after ≡ shares pot weights ++ drop (length weights) before
+pub accepted_writes_shares : (pot : ℕ) (weights before after : List ℕ) (r : ℕ) → Divided pot weights before after r
+    → r ≡ 0 → after ≡ shares pot weights ++ drop (length weights) before
 accepted_writes_shares pot weights before after r d z = d.lent ∙ memory_accepted pot weights before (sym d.number ∙ z)
 
 -- the shares add up to the pot

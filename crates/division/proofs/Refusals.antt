@@ -14,9 +14,10 @@ use Rattle.lists.specs.Sums.{total}
 use Rattle.lists.specs.Entries.{put}
 use Rattle.lists.proofs.Ranks.{lt_or_le}
 use Rattle.lists.proofs.Entries.{put_listed}
+use Rattle.answer.specs.Turns.{refuse, refusal}
+use Rattle.answer.proofs.Turns.{zero_or_not, refuse_none, refuse_some}
 use Rattle.division.specs.Limits.{most_weights, weight_limit, size_refusal, divide_refusal}
-use Rattle.division.specs.Shares.{share, shares, memory, Divided}
-use Rattle.division.specs.declared.Division.{Division}
+use Rattle.division.specs.Shares.{share, shares, memory}
 use Rattle.division.proofs.Handed.{sized}
 
 pub capped_size : (pot w : ℕ) → size_refusal pot (min w 10_000_000_000_001) ≡ size_refusal pot w
@@ -56,32 +57,21 @@ pub memory_refused : (pot : ℕ) (weights out : List ℕ) → divide_refusal pot
 unfolding memory
 memory_refused pot weights out d = rw (ne_eqb (divide_refusal pot weights (length out)) 0 d)
 
--- the code's capped sum and number, once the counts are right
-pub number_is : (pot : ℕ) (weights : List ℕ) (sum number : ℕ) → sum ≡ min (total weights) 10_000_000_000_001 → number ≡ size_refusal pot sum
-    → size_refusal pot (total weights) ≡ number
-number_is pot weights sum number e f = sym (capped_size pot (total weights)) ∙ ap (size_refusal pot) (sym e) ∙ sym f
+-- the shares, stored at the front of the lent words
+pub put_shares : (pot : ℕ) (weights out : List ℕ) → length weights ≤ length out
+    → put (length weights) (share pot weights) out ≡ shares pot weights ++ drop (length weights) out
+unfolding shares
+put_shares pot weights out room = put_listed (length weights) (share pot weights) out room
 
+-- the code's capped sum, where it is not refused
 pub sum_is : (pot : ℕ) (weights : List ℕ) (sum : ℕ) → sum ≡ min (total weights) 10_000_000_000_001 → size_refusal pot sum ≡ 0
     → sum ≡ total weights
 sum_is pot weights sum e f = e ∙ capped_same pot (total weights) (ap (size_refusal pot) (sym e) ∙ f)
 
--- an answer with no place: what `divide` answers
-abbrev Answers : Division → ℕ → Type 0
-Answers r number = (r.answer.number ≡ number) × (r.answer.table ≡ 0) × (r.answer.row ≡ 0)
-
-pub refused : (pot : ℕ) (weights out : List ℕ) (r : Division) (number : ℕ) → Answers r number
-    → divide_refusal pot weights (length out) ≡ number → (number ≡ 0 → ⊥) → Divided pot weights out out r
-refused pot weights out r number a e d =
-    record { number = a.0 ∙ sym e; table = a.1; row = a.2; lent = sym (memory_refused pot weights out (λ z. d (sym e ∙ z))) }
-
-pub divided : (pot : ℕ) (weights out after : List ℕ) (r : Division) → Answers r 0
-    → divide_refusal pot weights (length out) ≡ 0 → length weights ≤ length out
-    → after ≡ put (length weights) (share pot weights) out → Divided pot weights out after r
-unfolding shares
-divided pot weights out after r a e room stored =
-    record {
-      number = a.0 ∙ sym e;
-      table = a.1;
-      row = a.2;
-      lent = stored ∙ put_listed (length weights) (share pot weights) out room ∙ sym (memory_accepted pot weights out e);
-    }
+-- a refusal of no table and no row, and acceptance as well
+pub refuse_nowhere : (n : ℕ) → refuse n 0 0 ≡ record { number = n; table = 0; row = 0 }
+refuse_nowhere n =
+    ⊎_elim
+    (λ (z : n ≡ 0). refuse_none n 0 0 z ∙ ap (λ k. refusal k 0 0) (sym z))
+    (λ (d : n ≢ 0). refuse_some n 0 0 d)
+    (zero_or_not n)

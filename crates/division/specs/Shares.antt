@@ -4,7 +4,6 @@ use Rattle.std.specs.Prelude.{◌≡◌, ℕ, ◌+◌, ◌-◌, ◌*◌, ◌/◌
 use Rattle.lists.specs.Sums.{sum_to, at, total, bit, rank, largest_first}
 use Rattle.lists.specs.Entries.{listed}
 use Rattle.division.specs.Limits.{divide_refusal}
-use Rattle.division.specs.declared.Division.{Division}
 
 -- "Share i is the whole part of P times weight i over W" ..
 unfoldable pub quotient : ℕ → List ℕ → ℕ → ℕ
@@ -38,9 +37,7 @@ unfoldable pub memory : ℕ → List ℕ → List ℕ → List ℕ
 memory pot weights out =
     cond (eqb (divide_refusal pot weights (length out)) 0) (shares pot weights ++ drop (length weights) out) out
 
--- What `divide` answers and leaves in the lent words.
-pub record Divided (pot : ℕ) (weights before after : List ℕ) (r : Division) : Type 0 where
-  pub number : r.answer.number ≡ divide_refusal pot weights (length before)
-  pub table : r.answer.table ≡ 0
-  pub row : r.answer.row ≡ 0
+-- The number that `divide` says, and what it leaves in the lent words.
+pub record Divided (pot : ℕ) (weights before after : List ℕ) (r : ℕ) : Type 0 where
+  pub number : r ≡ divide_refusal pot weights (length before)
   pub lent : after ≡ memory pot weights before

@@ -6,30 +6,13 @@
 ghost use Rattle.std.specs.Prelude.{◌≡◌, ◌≤◌, length};
 ghost use Rattle.lists.specs.Sums.{total};
 ghost use Rattle.lists.specs.Entries.{put};
+ghost use Rattle.answer.specs.Results.{result_number};
 ghost use Rattle.division.specs.Limits.{most_weights, size_refusal};
 ghost use Rattle.division.specs.Shares.{share, Divided};
 
-use answer::{ACCEPTED, Answer, COUNT, HEAD, ROOM};
+use answer::Refusal;
 
 pub mod limits;
-
-// What `divide` answers.
-#[derive(Drop)]
-pub struct Division {
-    pub answer: Answer,
-}
-
-fn answered(number: u64) -> Division
-    ensures { (result.answer.number ≡ number) × (result.answer.table ≡ 0) × (result.answer.row ≡ 0) }
-{
-    Division {
-        answer: Answer {
-            number,
-            table: HEAD,
-            row: 0,
-        },
-    }
-}
 
 // Writes the shares to the first words of `out`. A sum of zero, which goes with a pot of zero, is divided by one instead.
 fn share_out(pot: u64, weights: &[u64], sum: u64, out: &mut [u64])
@@ -44,21 +27,19 @@ fn share_out(pot: u64, weights: &[u64], sum: u64, out: &mut [u64])
 // Divides a pot by weights and writes the shares to the first words of `out`. Refuses with COUNT (more than 64 weights), ROOM
 // (`out` is shorter than the weights), BIG (a pot above 10^11, or weights that add up to more than 10^13) and BASE (a pot
 // above zero and weights that add up to zero), in this order; a refusal writes nothing.
-pub fn divide(pot: u64, weights: &[u64], out: &mut [u64]) -> Division
-    ensures { Divided pot weights.now out.old out.new result }
+#[tactic(auto, using(crate::proofs::Refusals::capped_size, crate::proofs::Refusals::sum_is, crate::proofs::Refusals::put_shares), unfolding(crate::specs::Limits::divide_refusal, crate::specs::Shares::memory))]
+pub fn divide(pot: u64, weights: &[u64], out: &mut [u64]) -> Result<(), Refusal>
+    ensures { Divided pot weights.now out.old out.new (result_number result) }
 {
     let count = weights.len();
     if limits::MOST_WEIGHTS < count {
-        return answered(COUNT);
+        return Err(Refusal::Count);
     }
     if out.len() < count {
-        return answered(ROOM);
+        return Err(Refusal::Room);
     }
     let sum = lists::sum_capped(weights, limits::WEIGHT_LIMIT + 1);
-    let number = limits::size_refusal(pot, sum);
-    if number != ACCEPTED {
-        return answered(number);
-    }
+    limits::size_refusal(pot, sum)?;
     share_out(pot, weights, sum, out);
-    answered(ACCEPTED)
+    Ok(())
 }

@@ -1,143 +1,104 @@
 // The divisions and checks of the file `stdin`, a line each: a name, the pot, the weights, and behind `into` the words that are lent
 // for the shares, or behind `with` the amounts to check. A list is numbers joined by commas, or `nothing`. Each line is written out
 // again, and behind it what came: an answer, and for a division the words as they are then.
-ghost use Rattle.std.specs.Prelude.{◌≤◌, length};
+ghost use Rattle.std.specs.Prelude.{◌-◌, ◌≤◌, length};
 
-use crate::print::{answer_name, list, text};
-use std::io;
+use std::alloc::{AllocError, Global};
 use std::io::Read;
-use verdict::Verdict;
+use std::{fmt, io};
+use text::number::number_at;
 
-// What a line gives: the pot, how many weights and how many words there are, and whether these are amounts to check.
+// How many numbers are read of a list at the most.
+const MOST_NUMBERS: usize = 65;
+
+// A list of numbers as it is written.
 #[derive(Drop)]
-struct Given {
-    pot: u64,
-    weights: usize,
-    words: usize,
-    checked: bool,
-}
+struct Numbers(Vec<u64>);
 
-// The place of the first such byte from `from` on, or the end.
-fn place(line: &[u8], from: usize, byte: u8) -> usize
-    requires { from ≤ length line.now }
-    ensures { (from ≤ result) × (result ≤ length line.now) }
-{
-    match memchr::memchr(byte, &line[from..]) {
-        Some(at) => from + at,
-        None => line.len(),
-    }
-}
-
-// The place behind the first such byte from `from` on, or the end.
-fn behind(line: &[u8], from: usize, byte: u8) -> usize
-    requires { from ≤ length line.now }
-    ensures { result ≤ length line.now }
-{
-    let at = place(line, from, byte);
-    if at < line.len() {
-        return at + 1;
-    }
-    at
-}
-
-// Whether a byte stands at a place.
-fn stands(line: &[u8], at: usize, byte: u8) -> bool {
-    if at < line.len() {
-        return line[at] == byte;
-    }
-    false
-}
-
-// The numbers from `from` on, joined by commas, as many as there is room for; answers how many.
-fn numbers_at(line: &[u8], from: usize, words: &mut [u64]) -> usize
-    ensures { result ≤ length words.new }
-{
-    let mut at = from;
-    let mut count = 0;
-    while count < words.len() {
-        let read = text::number::number_at(line, at);
-        let next = read.next;
-        if next == 0 {
-            return count;
+impl fmt::Display for Numbers {
+    fn fmt<W: fmt::Write>(&self, f: &mut fmt::Formatter<W>) -> fmt::Result {
+        if self.0.is_empty() {
+            return f.write_str("nothing");
         }
-        words[count] = read.value;
-        count += 1;
-        if line.len() <= next {
-            return count;
+        for (i, number) in self.0.iter().enumerate() {
+            if 0 < i {
+                f.write_str(",")?;
+            }
+            write!(f, "{number}")?;
         }
-        if line[next] != b',' {
-            return count;
-        }
-        at = next + 1;
+        Ok(())
     }
-    count
 }
 
-// Reads a line, its lists into lent words.
-fn read_line(line: &[u8], weights: &mut [u64], words: &mut [u64]) -> Given
-    ensures { (result.weights ≤ length weights.new) × (result.words ≤ length words.new) }
+// What stands behind the first such byte, nothing where there is none.
+fn behind(bytes: &[u8], byte: u8) -> &[u8]
+    ensures { length result.now ≤ length bytes.now - 1 }
 {
-    let colon = behind(line, 0, b':');
-    let pot = behind(line, colon, b' ');
-    let by = behind(line, pot, b' ');
-    let first = behind(line, by, b' ');
-    let sign = behind(line, first, b' ');
-    let second = behind(line, sign, b' ');
-    let read = text::number::number_at(line, pot);
-    Given {
-        pot: read.value,
-        weights: numbers_at(line, first, weights),
-        words: numbers_at(line, second, words),
-        checked: stands(line, sign, b'w'),
+    match memchr::memchr(byte, bytes) {
+        Some(at) => &bytes[at + 1..],
+        None => &[],
     }
 }
 
-fn verdict_name(rt: &HostRuntime, verdict: Verdict) -> io::Result<()> {
-    match verdict {
-        Verdict::Yes => text(rt, b"yes"),
-        Verdict::No => text(rt, b"no"),
-        Verdict::Refused(number) => answer_name(rt, number),
+// The numbers in front, joined by commas.
+fn read_numbers(alloc: Global, bytes: &[u8]) -> Result<Numbers, AllocError> {
+    let mut found = Vec::new(alloc);
+    let mut at = 0;
+    for _ in 0..MOST_NUMBERS {
+        let Some(read) = number_at(bytes, at) else {
+            break;
+        };
+        found.push(read.value)?;
+        match bytes.get(read.next) {
+            Some(b',') => at = read.next + 1,
+            _ => break,
+        }
+    }
+    Ok(Numbers(found))
+}
+
+fn divide(rt: &HostRuntime, pot: u64, weights: &Numbers, mut words: Numbers) -> io::Result<()> {
+    match division::divide(pot, &weights.0, &mut words.0) {
+        Ok(()) => println!(rt; "accepted, {words}"),
+        Err(refusal) => println!(rt; "{refusal}, {words}"),
     }
 }
 
-fn divide(rt: &HostRuntime, pot: u64, weights: &[u64], out: &mut [u64]) -> io::Result<()> {
-    let r = division::divide(pot, weights, out);
-    answer_name(rt, r.answer.number)?;
-    list(rt, b", ", out)
+fn check(rt: &HostRuntime, pot: u64, weights: &Numbers, amounts: &Numbers) -> io::Result<()> {
+    match verdict::check(pot, &weights.0, &amounts.0) {
+        Ok(true) => println!(rt; "yes"),
+        Ok(false) => println!(rt; "no"),
+        Err(refusal) => println!(rt; "{refusal}"),
+    }
 }
 
+// A line: the name and a colon, the pot, `by`, the weights, `into` or `with`, the words.
 fn show(rt: &HostRuntime, line: &[u8]) -> io::Result<()> {
-    let mut weights = [0u64; 65];
-    let mut words = [0u64; 65];
-    let given = read_line(line, &mut weights, &mut words);
-    let count = given.weights;
-    let held = given.words;
-    text(rt, line)?;
-    text(rt, b": ")?;
-    if given.checked {
-        verdict_name(
-            rt,
-            verdict::check(given.pot, &weights[..count], &words[..held]),
-        )?;
+    let pot = behind(behind(line, b':'), b' ');
+    let first = behind(behind(pot, b' '), b' ');
+    let sign = behind(first, b' ');
+    let second = behind(sign, b' ');
+    let weights = read_numbers(rt.alloc(), first)?;
+    let words = read_numbers(rt.alloc(), second)?;
+    let pot = number_at(pot, 0).map_or(0, |read| read.value);
+    rt.write_all(line)?;
+    rt.write_all(b": ")?;
+    if sign.first() == Some(&b'w') {
+        check(rt, pot, &weights, &words)
     } else {
-        divide(rt, given.pot, &weights[..count], &mut words[..held])?;
+        divide(rt, pot, &weights, words)
     }
-    text(rt, b"\n")
 }
 
 // Every line in turn.
-fn show_all(rt: &HostRuntime, lines: &[u8]) -> io::Result<()> {
-    let mut at = 0;
-    while at < lines.len() {
-        let end = place(lines, at, b'\n');
-        show(rt, &lines[at..end])?;
-        at = end + 1;
-    }
-    Ok(())
-}
-
 pub(crate) fn run(rt: &HostRuntime) -> io::Result<()> {
     let mut input = Vec::new(rt.alloc());
     rt.stdin().read_to_end(&mut input)?;
-    show_all(rt, &input)
+    let mut rest: &[u8] = &input;
+    while !rest.is_empty() {
+        let end = memchr::memchr(b'\n', rest).unwrap_or(rest.len());
+        show(rt, &rest[..end])?;
+        rest = behind(rest, b'\n');
+    }
+    Ok(())
 }

@@ -8,7 +8,6 @@
 
 mod cases;
 mod months;
-mod print;
 
 use std::io;
 

@@ -3,72 +3,57 @@ ghost use Rattle.std.specs.Prelude.{◌≤◌};
 ghost use Rattle.month.specs.Limits.{most_annual, most_rate};
 ghost use Rattle.month.specs.Quantities.{most_contributions};
 
-use crate::print::{answer_name, digits, number, text};
-use month::{Made, Month, TenthMwDays};
+use answer::Refusal;
+use month::{Month, TenthMwDays};
 use std::io;
 
-fn charge(rt: &HostRuntime, name: &[u8], contributions: u64, rate: u64) -> io::Result<()>
+fn charge(rt: &HostRuntime, name: &str, contributions: u64, rate: u64) -> io::Result<()>
     requires { (contributions ≤ most_contributions) × (rate ≤ most_rate) }
 {
-    text(rt, name)?;
-    number(rt, b": ", contributions)?;
-    number(rt, b" tenths at ", rate)?;
-    number(
-        rt,
-        b": ",
-        month::charge_at_rate(TenthMwDays(contributions), rate),
-    )?;
-    text(rt, b"\n")
+    let cents = month::charge_at_rate(TenthMwDays(contributions), rate);
+    println!(rt; "{name}: {contributions} tenths at {rate}: {cents}")
 }
 
 fn charges(rt: &HostRuntime) -> io::Result<()> {
-    charge(rt, b"N1", 3000, 1_471_400)?;
-    charge(rt, b"N2", 1825, 1)?;
-    charge(rt, b"N2", 1824, 1)
+    charge(rt, "N1", 3000, 1_471_400)?;
+    charge(rt, "N2", 1825, 1)?;
+    charge(rt, "N2", 1824, 1)
 }
 
-fn twelfth(rt: &HostRuntime, name: &[u8], annual: u64, month: u64, days: u64) -> io::Result<()>
+fn twelfth(rt: &HostRuntime, name: &str, annual: u64, month: u64, days: u64) -> io::Result<()>
     requires { annual ≤ most_annual }
 {
-    text(rt, name)?;
-    number(rt, b": annual ", annual)?;
-    number(rt, b" in month ", month)?;
-    text(rt, b": ")?;
     match Month::new(month, days) {
-        Made::Good(made) => digits(rt, made.twelfth(annual)),
-        Made::Bad => answer_name(rt, answer::MONTH),
-    }?;
-    text(rt, b"\n")
-}
-
-fn twelfths(rt: &HostRuntime) -> io::Result<()> {
-    twelfth(rt, b"M1", 100, 1, 31)?;
-    twelfth(rt, b"M1", 100, 2, 28)?;
-    twelfth(rt, b"M1", 100, 3, 31)
-}
-
-fn made_name(rt: &HostRuntime, made: Made) -> io::Result<()> {
-    match made {
-        Made::Good(_) => answer_name(rt, answer::ACCEPTED),
-        Made::Bad => answer_name(rt, answer::MONTH),
+        Some(made) => {
+            let cents = made.twelfth(annual);
+            println!(rt; "{name}: annual {annual} in month {month}: {cents}")
+        }
+        None => println!(rt;
+            "{name}: annual {annual} in month {month}: {}",
+            Refusal::Month
+        ),
     }
 }
 
-fn length(rt: &HostRuntime, name: &[u8], month: u64, days: u64) -> io::Result<()> {
-    text(rt, name)?;
-    number(rt, b": month ", month)?;
-    number(rt, b" of ", days)?;
-    text(rt, b" days: ")?;
-    made_name(rt, Month::new(month, days))?;
-    text(rt, b"\n")
+fn twelfths(rt: &HostRuntime) -> io::Result<()> {
+    twelfth(rt, "M1", 100, 1, 31)?;
+    twelfth(rt, "M1", 100, 2, 28)?;
+    twelfth(rt, "M1", 100, 3, 31)
+}
+
+fn length(rt: &HostRuntime, name: &str, month: u64, days: u64) -> io::Result<()> {
+    match Month::new(month, days) {
+        Some(_) => println!(rt; "{name}: month {month} of {days} days: accepted"),
+        None => println!(rt; "{name}: month {month} of {days} days: {}", Refusal::Month),
+    }
 }
 
 fn lengths(rt: &HostRuntime) -> io::Result<()> {
-    length(rt, b"February", 2, 28)?;
-    length(rt, b"February", 2, 29)?;
-    length(rt, b"February", 2, 30)?;
-    length(rt, b"April", 4, 30)?;
-    length(rt, b"April", 4, 31)
+    length(rt, "February", 2, 28)?;
+    length(rt, "February", 2, 29)?;
+    length(rt, "February", 2, 30)?;
+    length(rt, "April", 4, 30)?;
+    length(rt, "April", 4, 31)
 }
 
 pub(crate) fn run(rt: &HostRuntime) -> io::Result<()> {

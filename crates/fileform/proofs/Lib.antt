@@ -6,7 +6,6 @@ pub mod RowWalks
 pub mod Forms
 pub mod Contents
 pub mod KeyLaws
-pub mod Tables
 pub mod Refusals
 pub mod Reasons
 pub mod Unique

@@ -1,21 +1,32 @@
 -- The contracts determine the answers: two answers, and two lent memories after, that one of them allows are equal. Those of
 -- what measures first lines and rows and writes them are `sized_unique` and `put_at_unique` of `text`.
 -- Assumes nothing.
-use mathlib.Core.Path.{◌≡◌, sym, ◌∙◌}
-use mathlib.Core.List.{List, []}
+use mathlib.Core.Path.{◌≡◌, refl, sym, ◌∙◌}
+use mathlib.Core.List.{List, [], ◌∷◌}
 use Prim.Native.Nat.{ℕ}
+use lib.ListN.{drop}
+use Rattle.std.specs.Prelude.{Option, None, Some}
+use Rattle.text.specs.declared.number.Number.{Number}
 use Rattle.text.specs.Numbers.{Found, found}
 use Rattle.text.specs.Places.{FieldsTaken}
+use Rattle.text.proofs.Numbers.{never}
 use Rattle.text.proofs.Stores.{stored_none}
 use Rattle.text.proofs.Unique.{line_at_unique, fields_taken_unique}
 use Rattle.fileform.specs.declared.row.Counted.{Counted}
 use Rattle.fileform.specs.Reading.{RowsRead}
-use Rattle.fileform.specs.Calls.{OneTaken, CountedAt, RowsTaken}
+use Rattle.fileform.specs.Calls.{OneAt, CountedAt, RowsTaken}
 
 -- `head::one_number`, `head::take_head`
-pub one_taken_unique : (s : List ℕ) (o : Found (List ℕ)) (lent : List ℕ) (place n m : ℕ) (after after' : List ℕ)
-    → OneTaken s o lent place n after → OneTaken s o lent place m after' → (n ≡ m) × (after ≡ after')
-one_taken_unique s o lent place n m after after' a b = (line_at_unique s o n m a.line_is b.line_is, a.written ∙ sym b.written)
+pub one_at_unique : (s : List ℕ) (o : Found (List ℕ)) (r q : Option Number) → OneAt s o r → OneAt s o q → r ≡ q
+one_at_unique s o None None a b = refl
+one_at_unique s o None (Some m) a b = absurd (never a b.1)
+one_at_unique s o (Some n) None a b = absurd (never b a.1)
+one_at_unique s o (Some n) (Some m) a b =
+    let same : found (n.value ∷ []) (drop n.next s) ≡ found (m.value ∷ []) (drop m.next s) = sym a.1 ∙ b.1 in
+    let value : n.value ≡ m.value = cc in
+    let next : Some n.next ≡ Some m.next = line_at_unique s o (Some n.next) (Some m.next) (a.0, (n.value ∷ [], a.1)) (b.0, (m.value ∷ [], b.1)) in
+    let behind : n.next ≡ m.next = cc in
+    λ i. Some (record { value = value i; next = behind i })
 
 -- `table::count_table`, `row::count_rows`
 pub counted_at_unique : (s : List ℕ) (r : RowsRead) (c d : Counted) → CountedAt s r c → CountedAt s r d → c ≡ d

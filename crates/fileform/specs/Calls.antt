@@ -1,19 +1,20 @@
 -- What the functions over one of the first lines, over the rows of one kind and over those of one table answer and leave.
 -- Assumes nothing.
-use Rattle.std.specs.Prelude.{◌≡◌, List, ℕ, ◌/◌, ◌≤◌, length, drop}
+use Rattle.std.specs.Prelude.{◌≡◌, List, [], ◌∷◌, ℕ, Option, None, Some, ◌/◌, ◌≤◌, length, drop}
 use Rattle.tables.specs.declared.Table.{Table}
 use Rattle.tables.specs.Shape.{width}
-use Rattle.text.specs.Numbers.{Found}
-use Rattle.text.specs.Places.{LineAt, fields_of, stored}
+use Rattle.text.specs.declared.number.Number.{Number}
+use Rattle.text.specs.Numbers.{Found, found, missing}
+use Rattle.text.specs.Places.{stored}
 use Rattle.fileform.specs.declared.row.Counted.{Counted}
 use Rattle.fileform.specs.Form.{kind_of, line_text_of}
 use Rattle.fileform.specs.Reading.{RowsRead}
 use Rattle.fileform.specs.Writing.{rows_text}
 
--- a line's fields stored at a place, and the offset behind it; 0, and nothing stored, where it doesn't fit
-pub record OneTaken (s : List ℕ) (o : Found (List ℕ)) (lent : List ℕ) (place next : ℕ) (after : List ℕ) : Type 0 where
-  pub line_is : LineAt s o next
-  pub written : after ≡ stored lent place (fields_of o)
+-- the number of a line with one field, with the offset behind the line, or none
+abbrev pub OneAt : List ℕ → Found (List ℕ) → Option Number → Type 0
+OneAt s o None = o ≡ missing
+OneAt s o (Some n) = (n.next ≤ length s) × (o ≡ found (n.value ∷ []) (drop n.next s))
 
 -- rows that were counted in the text s, and the offset behind them
 pub record CountedAt (s : List ℕ) (r : RowsRead) (c : Counted) : Type 0 where

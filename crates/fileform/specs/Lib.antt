@@ -4,4 +4,3 @@ pub mod Reading
 pub mod Writing
 pub mod Refused
 pub mod Calls
-pub mod Steps

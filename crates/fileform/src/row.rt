@@ -19,21 +19,20 @@ pub(crate) fn count_rows(text: &[u8], at: usize, key: &[u8], width: usize, most:
     ensures { CountedAt text.now (row_lines (line key.now width) most (drop at text.now)) result }
 {
     let mut i = at;
-    let mut count = 0;
-    let mut left = most;
-    while 0 < left {
-        left -= 1;
-        let next = text::reader::next_line(text, i, key, width);
-        if next == 0 {
-            return Counted { count, next: i };
+    for count in 0..most {
+        match text::reader::next_line(text, i, key, width) {
+            Some(next) => i = next,
+            None => return Counted { count, next: i },
         }
-        i = next;
-        count += 1;
     }
-    Counted { count, next: i }
+    Counted {
+        count: most,
+        next: i,
+    }
 }
 
 // Stores so many rows, which are known to be there, and answers the offset behind them.
+#[tactic(auto, using(crate::proofs::RowWalks::row_within, crate::proofs::RowWalks::row_there, crate::proofs::RowWalks::rows_done, text::proofs::Stores::stored_none))]
 pub(crate) fn take_rows(
     text: &[u8],
     at: usize,
@@ -46,17 +45,14 @@ pub(crate) fn take_rows(
     ensures { RowsTaken text.now (row_lines (line key.now width) count (drop at text.now)) words.old result words.new }
 {
     let mut i = at;
-    let mut left = count;
-    let mut place = 0;
-    while 0 < left {
-        left -= 1;
-        i = text::reader::take_next_line(text, i, key, width, words, place);
-        place += width;
+    for k in 0..count {
+        i = text::reader::take_next_line(text, i, key, width, words, k * width);
     }
     i
 }
 
 // Adds the bytes of so many rows to a size, up to the cap.
+#[tactic(auto, using(crate::proofs::RowWalks::length_on, crate::proofs::RowWalks::text_done, crate::proofs::RowWalks::row_within))]
 pub fn rows_size(
     key: &[u8],
     width: usize,
@@ -69,17 +65,16 @@ pub fn rows_size(
     ensures { Sized before (rows_text (line_text key.now) width count words.now) cap result }
 {
     let mut size = before;
-    let mut left = count;
-    let mut from = 0;
-    while 0 < left {
-        left -= 1;
-        size = text::line::line_size(key, words, from, width, size, cap);
-        from += width;
+    for k in 0..count {
+        let from = k * width;
+        let row = &words[from..from + width];
+        size = text::line::line_size(key, row, size, cap);
     }
     size
 }
 
 // Writes so many rows at `at`, and answers the place behind them.
+#[tactic(auto, using(crate::proofs::RowWalks::row_within, crate::proofs::RowWalks::put_on, crate::proofs::RowWalks::text_done, crate::proofs::RowWalks::length_on, text::proofs::Stores::stored_none))]
 pub fn put_rows(
     key: &[u8],
     width: usize,
@@ -92,12 +87,10 @@ pub fn put_rows(
     ensures { PutAt out.old at (rows_text (line_text key.now) width count words.now) result out.new }
 {
     let mut i = at;
-    let mut left = count;
-    let mut from = 0;
-    while 0 < left {
-        left -= 1;
-        i = text::line::put_line(key, words, from, width, out, i);
-        from += width;
+    for k in 0..count {
+        let from = k * width;
+        let row = &words[from..from + width];
+        i = text::line::put_line(key, row, out, i);
     }
     i
 }

@@ -8,12 +8,16 @@ use native.Mathlib.Nat.{zero-add}
 use native.Mathlib.Omega.{arith}
 use lib.ListN.{length, drop, set, length-drop, length-append}
 use lib.Seq.{drop-length}
-use Rattle.lists.specs.Sums.{at, total}
-use Rattle.lists.proofs.Sums.{sum_none, sum_first}
+use Rattle.std.specs.Prelude.{Option, None, Some, Ok, Err}
+use Rattle.std.specs.Option.{ok_or}
+use Rattle.std.specs.List.{sum}
+use Rattle.std.proofs.lemmas.List.Sums.{sum_by-cons}
 use Rattle.answer.specs.declared.Answer.{Answer}
+use Rattle.answer.specs.declared.Refused.{Refused}
 use Rattle.answer.specs.Numbers as numbers
-use Rattle.answer.specs.Turns.{accepted, refuse}
-use Rattle.answer.proofs.Turns.{refuse_number}
+use Rattle.answer.specs.Turns.{refusal, refuse}
+use Rattle.answer.specs.Results.{refused_answer}
+use Rattle.answer.proofs.Turns.{refuse_some}
 use Rattle.tables.specs.Shape.{table_count, table_at, number, limit}
 use Rattle.text.specs.declared.reader.Ends.{Ends}
 use Rattle.text.specs.Numbers.{found, missing}
@@ -25,28 +29,26 @@ use Rattle.text.proofs.Lines.{Line, line_back}
 use Rattle.text.proofs.Places.{drop_next, drop_end}
 use Rattle.text.proofs.Stores.{stored_none, stored_one, stored_append, stored_is}
 use Rattle.fileform.specs.declared.row.Counted.{Counted}
-use Rattle.fileread.specs.declared.judge.Walk.{Walk}
 use Rattle.fileform.specs.Form.{Form, head_keys, head_count, head_key, kind_of, month_form}
 use Rattle.fileform.specs.Reading.{Outcome, got, refused, onward, unfit, Rows, head_lines, table_lines, Contents, rows_in_all, closed, ending, reading}
-use Rattle.fileform.specs.Calls.{OneTaken, CountedAt}
+use Rattle.fileform.specs.Calls.{CountedAt}
 use Rattle.fileread.specs.Calls.{counts_of}
-use Rattle.fileread.specs.Steps.{Walked, Ended}
+use Rattle.fileread.specs.Steps.{WentOn, Ended}
 use Rattle.fileform.proofs.KeyLaws.{heads_drop, heads_over}
 use Rattle.fileform.proofs.Each.{order_drop, order_over}
 use Rattle.fileform.proofs.Forms.{heads_none, heads_on, heads_stop, tables_none, tables_on, tables_over, read_of, table_of, ending_stop, ending_other, ending_on}
 
 -- a refusal's offset is how much has been read
-pub unfit_at : (s : List ℕ) (i : ℕ) → i ≤ length s → unfit (length s) (drop i s) ≡ refuse numbers.TEXT numbers.HEAD i
+pub unfit_at : (s : List ℕ) (i : ℕ) → i ≤ length s → unfit (length s) (drop i s) ≡ refusal numbers.TEXT numbers.HEAD i
 unfit_at s i h =
     let left : length (drop i s) ≡ length s - i = length-drop i s in
     let e : length s - length (drop i s) ≡ i = omega arith in
-    ap (refuse numbers.TEXT numbers.HEAD) e
+    ap (refuse numbers.TEXT numbers.HEAD) e ∙ refuse_some numbers.TEXT numbers.HEAD i (λ z. omega (arith, z))
 
--- an answer that is TEXT refuses
-text_refuses : (i : ℕ) (a : Answer) → a ≡ refuse numbers.TEXT numbers.HEAD i → a.number ≢ 0
-text_refuses i a q z =
-    let y : numbers.TEXT ≡ 0 = sym (ap (λ (b : Answer). b.number) q ∙ refuse_number numbers.TEXT numbers.HEAD i) ∙ z in
-    omega arith
+-- the refusal of what was asked for and is not there
+pub asked : {A E : Type 0} (o : Option A) (why x : E) → Err x ≡ ok_or o why → x ≡ why
+asked None why x e = cc
+asked (Some y) why x e = cc
 
 onward_same : {E : Type 0} (o : Outcome (List E)) → o ≡ onward o (λ ms u. got ms u)
 onward_same (got a s) = refl
@@ -84,27 +86,16 @@ module _ {E : Type 0} (kept : List E → List ℕ) (none : kept [] ≡ []) (more
               ∙ ap (stored lent 0) (sym (more w.done es));
         }
 
-    pub walk_stop : (s : List ℕ) (r : Walk) (a : Answer) (after : List ℕ) → left ≡ refused a → r.answer ≡ a → a.number ≢ 0 → r.at ≤ length s
-        → Walked s o kept lent r after
-    walk_stop s r a after e q d h =
-        record {
-          inside = h;
-          stopped = λ b. w.whole ∙ ap (λ l. onward l (λ ms u. got (w.done ++ ms) u)) e ∙ ap refused (sym q);
-          went_on = λ z. absurd (d (ap (λ (b : Answer). b.number) (sym q) ∙ z));
-        }
+    pub walk_stop : (r : Refused) → left ≡ refused (refused_answer r) → o ≡ refused (refused_answer r)
+    walk_stop r e = w.whole ∙ ap (λ l. onward l (λ ms u. got (w.done ++ ms) u)) e
 
-    pub walk_end : (s : List ℕ) (r : Walk) → left ≡ got [] (drop r.at s) → r.answer ≡ accepted → r.at ≤ length s
-        → Walked s o kept lent r current
-    walk_end s r e q h =
+    pub walk_end : (s : List ℕ) (i : ℕ) → left ≡ got [] (drop i s) → i ≤ length s → WentOn s o kept lent i current
+    walk_end s i e h =
         record {
           inside = h;
-          stopped = λ d. absurd (d (ap (λ (b : Answer). b.number) q));
-          went_on = λ z. (
-            w.done,
-            w.whole ∙ ap (λ l. onward l (λ ms u. got (w.done ++ ms) u)) e ∙ ap (λ l. got l (drop r.at s)) (append-nil w.done),
-            w.stored_is,
-            q,
-          );
+          its = w.done;
+          read = w.whole ∙ ap (λ l. onward l (λ ms u. got (w.done ++ ms) u)) e ∙ ap (λ l. got l (drop i s)) (append-nil w.done);
+          kept_is = w.stored_is;
         }
 
 -- the first lines
@@ -116,13 +107,10 @@ itself_more x y = refl
 
 module _ (s : List ℕ) (o : Outcome (List ℕ)) (lent current : List ℕ) (i k : ℕ) (h : i ≤ length s) where
   module _ (key : List ℕ) (keys : List (List ℕ)) (w : Walking o (head_lines (length s) (key ∷ keys) (drop i s)) itself lent current k) where
-    head_stop : line key 1 (drop i s) ≡ missing → (r : Walk) → (r.answer ≡ refuse numbers.TEXT numbers.HEAD i) × (r.at ≡ i) → (after : List ℕ)
-        → Walked s o itself lent r after
-    head_stop e r q after =
-        walk_stop itself refl itself_more o (head_lines (length s) (key ∷ keys) (drop i s)) lent current k w s r
-        (refuse numbers.TEXT numbers.HEAD i) after
-        (heads_stop (length s) key keys (drop i s) e ∙ ap refused (unfit_at s i h))
-        q.0 (text_refuses i (refuse numbers.TEXT numbers.HEAD i) refl) (rw q.1 h)
+    head_stop : line key 1 (drop i s) ≡ missing → (r : Refused) → refused_answer r ≡ refusal numbers.TEXT numbers.HEAD i → o ≡ refused (refused_answer r)
+    head_stop e r q =
+        walk_stop itself refl itself_more o (head_lines (length s) (key ∷ keys) (drop i s)) lent current k w r
+        (heads_stop (length s) key keys (drop i s) e ∙ ap refused (unfit_at s i h ∙ sym q))
 
     head_next : (n : ℕ) (ns next : List ℕ) → line key 1 (drop i s) ≡ found ns (drop n s) → next ≡ stored current k (fields_of (line key 1 (drop i s)))
         → Walking o (head_lines (length s) keys (drop n s)) itself lent next (k + 1)
@@ -134,12 +122,9 @@ module _ (s : List ℕ) (o : Outcome (List ℕ)) (lent current : List ℕ) (i k 
         (written ∙ ap (λ f. stored current k (fields_of f)) read)
         (ap (λ m. k + m) one.width_is)
 
-  head_end : Walking o (head_lines (length s) [] (drop i s)) itself lent current k → (r : Walk) → (r.answer ≡ accepted) × (r.at ≡ i)
-      → Walked s o itself lent r current
-  head_end w r q =
-      walk_end itself refl itself_more o (head_lines (length s) [] (drop i s)) lent current k w s r
-      (heads_none (length s) (drop i s) ∙ ap (λ j. got [] (drop j s)) (sym q.1))
-      q.0 (rw q.1 h)
+  head_end : Walking o (head_lines (length s) [] (drop i s)) itself lent current k → WentOn s o itself lent i current
+  head_end w =
+      walk_end itself refl itself_more o (head_lines (length s) [] (drop i s)) lent current k w s i (heads_none (length s) (drop i s)) h
 
 -- the month file's: one reader steps over `month` and `days`
 abbrev pub first_lines : List ℕ → Outcome (List ℕ)
@@ -149,8 +134,7 @@ module _ (s lent : List ℕ) (ends : Ends) (a : EndsAt s 0 (head_key 0) (head_ke
   start : Walking (first_lines s) (first_lines s) itself lent lent 0
   start = walk_start itself refl itself_more (first_lines s) lent
 
-  pub month_stop : ends.first ≡ 0 → (r : Walk) → (r.answer ≡ refuse numbers.TEXT numbers.HEAD 0) × (r.at ≡ 0) → (after : List ℕ)
-      → Walked s (first_lines s) itself lent r after
+  pub month_stop : ends.first ≡ 0 → (r : Refused) → refused_answer r ≡ refusal numbers.TEXT numbers.HEAD 0 → first_lines s ≡ refused (refused_answer r)
   month_stop z = head_stop s (first_lines s) lent lent 0 0 (omega arith) (head_key 0) (drop 1 head_keys) start (a.first_is.unfit z)
 
   module _ (d : ends.first ≢ 0) where
@@ -163,8 +147,8 @@ module _ (s lent : List ℕ) (ends : Ends) (a : EndsAt s 0 (head_key 0) (head_ke
         head_next s (first_lines s) lent lent 0 0 (omega arith) (head_key 0) (drop 1 head_keys) start ends.first (a.first_is.fits d).0 one
         (a.first_is.fits d).1 e
 
-    pub days_stop : ends.second ≡ ends.first → (r : Walk) → (r.answer ≡ refuse numbers.TEXT numbers.HEAD ends.first) × (r.at ≡ ends.first)
-        → (after : List ℕ) → Walked s (first_lines s) itself lent r after
+    pub days_stop : ends.second ≡ ends.first → (r : Refused) → refused_answer r ≡ refusal numbers.TEXT numbers.HEAD ends.first
+        → first_lines s ≡ refused (refused_answer r)
     days_stop z =
         let one : List ℕ = stored lent 0 (fields_of (line (head_key 0) 1 s)) in
         head_stop s (first_lines s) lent one ends.first 1 (a.first_is.inside d) (head_key 1) (drop 2 head_keys) (month_next one refl)
@@ -184,19 +168,21 @@ module _ (s lent : List ℕ) (ends : Ends) (a : EndsAt s 0 (head_key 0) (head_ke
 -- .. and the others follow, each by its place
 module _ (s : List ℕ) (o : Outcome (List ℕ)) (lent current : List ℕ) (i k : ℕ)
     (w : Walking o (head_lines (length s) (drop k head_keys) (drop i s)) itself lent current k) (h : i ≤ length s) where
-  module _ (b : k < head_count) (n : ℕ) (next : List ℕ) (t : OneTaken s (line (head_key k) 1 (drop i s)) current k n next) where
+  module _ (b : k < head_count) where
     opened_head : Walking o (head_lines (length s) (head_key k ∷ drop (k + 1) head_keys) (drop i s)) itself lent current k
     opened_head = subst (λ keys. Walking o (head_lines (length s) keys (drop i s)) itself lent current k) (heads_drop k b) w
 
-    pub further_stop : n ≡ 0 → (r : Walk) → (r.answer ≡ refuse numbers.TEXT numbers.HEAD i) × (r.at ≡ i) → (after : List ℕ)
-        → Walked s o itself lent r after
-    further_stop z = head_stop s o lent current i k h (head_key k) (drop (k + 1) head_keys) opened_head (t.line_is.unfit z)
+    pub further_stop : line (head_key k) 1 (drop i s) ≡ missing → (r : Refused) → refused_answer r ≡ refusal numbers.TEXT numbers.HEAD i
+        → o ≡ refused (refused_answer r)
+    further_stop e = head_stop s o lent current i k h (head_key k) (drop (k + 1) head_keys) opened_head e
 
-    pub further_next : n ≢ 0 → Walking o (head_lines (length s) (drop (k + 1) head_keys) (drop n s)) itself lent next (k + 1)
-    further_next d =
-        head_next s o lent current i k h (head_key k) (drop (k + 1) head_keys) opened_head n (t.line_is.fits d).0 next (t.line_is.fits d).1 t.written
+    pub further_next : (v n : ℕ) → line (head_key k) 1 (drop i s) ≡ found (v ∷ []) (drop n s)
+        → Walking o (head_lines (length s) (drop (k + 1) head_keys) (drop n s)) itself lent (set current k v) (k + 1)
+    further_next v n e =
+        head_next s o lent current i k h (head_key k) (drop (k + 1) head_keys) opened_head n (v ∷ []) (set current k v) e
+        (sym (stored_one current k v) ∙ ap (λ f. stored current k (fields_of f)) (sym e))
 
-  pub further_end : head_count ≤ k → (r : Walk) → (r.answer ≡ accepted) × (r.at ≡ i) → Walked s o itself lent r current
+  pub further_end : head_count ≤ k → WentOn s o itself lent i current
   further_end b =
       head_end s o lent current i k h (subst (λ keys. Walking o (head_lines (length s) keys (drop i s)) itself lent current k) (heads_over k b) w)
 
@@ -208,10 +194,10 @@ pub counts_length : (ts : List Rows) → length (counts_of ts) ≡ length ts
 counts_length [] = refl
 counts_length (t ∷ ts) = ap suc (counts_length ts)
 
-pub total_counts : (ts : List Rows) → total (counts_of ts) ≡ rows_in_all ts
+pub sum_counts : (ts : List Rows) → sum (counts_of ts) ≡ rows_in_all ts
 unfolding rows_in_all
-total_counts [] = sum_none (at [])
-total_counts (t ∷ ts) = sum_first (length (counts_of ts)) (at (counts_of (t ∷ ts))) ∙ ap (λ n. t.count + n) (total_counts ts)
+sum_counts [] = refl
+sum_counts (t ∷ ts) = sum_by-cons (λ x. x) t.count (counts_of ts) ∙ ap (λ n. t.count + n) (sum_counts ts)
 
 module _ (s : List ℕ) (o : Outcome (List Rows)) (lent current : List ℕ) (i k : ℕ)
     (w : Walking o (table_lines (drop k month_form.kinds) (drop i s)) counts_of lent current k) (h : i ≤ length s) where
@@ -219,14 +205,13 @@ module _ (s : List ℕ) (o : Outcome (List Rows)) (lent current : List ℕ) (i k
     opened_kind : table_lines (drop k month_form.kinds) (drop i s) ≡ table_lines (kind_of (table_at k) ∷ drop (k + 1) month_form.kinds) (drop i s)
     opened_kind = ap (λ l. table_lines l (drop i s)) (order_drop kind_of k b)
 
-    pub table_stop : limit (table_at k) < c.count → (r : Walk)
-        → r.answer ≡ refuse numbers.COUNT (number (table_at k)) (limit (table_at k)) → r.at ≤ length s → (after : List ℕ) → Walked s o counts_of lent r after
-    table_stop over r q p after =
+    pub table_stop : limit (table_at k) < c.count → (r : Refused) → refused_answer r ≡ refusal numbers.COUNT (number (table_at k)) (limit (table_at k))
+        → o ≡ refused (refused_answer r)
+    table_stop over r q =
         let many : limit (table_at k) < (read_of (kind_of (table_at k)) (drop i s)).count = rw t.count_is over in
-        walk_stop counts_of refl counts_more o (table_lines (drop k month_form.kinds) (drop i s)) lent current k w s r
-        (refuse numbers.COUNT (number (table_at k)) (limit (table_at k))) after
-        (opened_kind ∙ tables_over (kind_of (table_at k)) (drop (k + 1) month_form.kinds) (drop i s) many)
-        q (λ e. let z : 1 ≡ 0 = sym (refuse_number numbers.COUNT (number (table_at k)) (limit (table_at k))) ∙ e in omega arith) p
+        walk_stop counts_of refl counts_more o (table_lines (drop k month_form.kinds) (drop i s)) lent current k w r
+        (opened_kind ∙ tables_over (kind_of (table_at k)) (drop (k + 1) month_form.kinds) (drop i s) many
+        ∙ ap refused (refuse_some numbers.COUNT (number (table_at k)) (limit (table_at k)) (λ z. omega (arith, z)) ∙ sym q))
 
     pub table_next : c.count ≤ limit (table_at k)
         → Walking o (table_lines (drop (k + 1) month_form.kinds) (drop c.next s)) counts_of lent (set current k c.count) (k + 1)
@@ -240,11 +225,10 @@ module _ (s : List ℕ) (o : Outcome (List Rows)) (lent current : List ℕ) (i k
         (sym (stored_one current k c.count) ∙ ap (λ m. stored current k (m ∷ [])) (sym t.count_is))
         refl
 
-  pub table_end : table_count ≤ k → (r : Walk) → (r.answer ≡ accepted) × (r.at ≡ i) → Walked s o counts_of lent r current
-  table_end b r q =
-      walk_end counts_of refl counts_more o (table_lines (drop k month_form.kinds) (drop i s)) lent current k w s r
-      (ap (λ l. table_lines l (drop i s)) (order_over kind_of k b) ∙ tables_none (drop i s) ∙ ap (λ j. got [] (drop j s)) (sym q.1))
-      q.0 (rw q.1 h)
+  pub table_end : table_count ≤ k → WentOn s o counts_of lent i current
+  table_end b =
+      walk_end counts_of refl counts_more o (table_lines (drop k month_form.kinds) (drop i s)) lent current k w s i
+      (ap (λ l. table_lines l (drop i s)) (order_over kind_of k b) ∙ tables_none (drop i s)) h
 
 -- a lent list that is filled whole
 pub stored_all : (l vs : List ℕ) → length vs ≡ length l → stored l 0 vs ≡ vs
@@ -255,55 +239,31 @@ stored_all l vs e =
     ∙ append-nil vs
 
 -- the last line
-module _ (key s : List ℕ) (i total : ℕ) (h : i ≤ length s) (current : List ℕ) (n : ℕ) (next : List ℕ)
-    (t : OneTaken s (line key 1 (drop i s)) current 0 n next) (one_word : length current ≡ 1) where
+module _ (key s : List ℕ) (i total : ℕ) (h : i ≤ length s) where
   not_fit : ((c : Contents) → rows_in_all c.tables ≡ total → ending (length s) key c (drop i s) ≡ refused (unfit (length s) (drop i s)))
-      → (a : Answer) → a ≡ refuse numbers.TEXT numbers.HEAD i → Ended key s (drop i s) total a
-  not_fit e a q =
-      record {
-        stopped = λ d c r. e c r ∙ ap refused (unfit_at s i h ∙ sym q);
-        went_on = λ z. absurd (text_refuses i a q z);
-        none = λ z. absurd (text_refuses i a q z);
-      }
+      → (r : Refused) → refused_answer r ≡ refusal numbers.TEXT numbers.HEAD i → Ended key s (drop i s) total (Err r)
+  not_fit e r q = λ c rows. e c rows ∙ ap refused (unfit_at s i h ∙ sym q)
 
-  pub end_missing : n ≡ 0 → (a : Answer) → a ≡ refuse numbers.TEXT numbers.HEAD i → Ended key s (drop i s) total a
-  end_missing z a q = not_fit (λ c r. ending_stop (length s) key c (drop i s) (t.line_is.unfit z)) a q
+  pub end_missing : line key 1 (drop i s) ≡ missing → (r : Refused) → refused_answer r ≡ refusal numbers.TEXT numbers.HEAD i
+      → Ended key s (drop i s) total (Err r)
+  end_missing e = not_fit (λ c rows. ending_stop (length s) key c (drop i s) e)
 
-  module _ (d : n ≢ 0) where
-    read_is : line key 1 (drop i s) ≡ found (t.line_is.fits d).0 (drop n s)
-    read_is = (t.line_is.fits d).1
+  module _ (v n : ℕ) (inside : n ≤ length s) (e : line key 1 (drop i s) ≡ found (v ∷ []) (drop n s)) where
+    pub end_other : v ≢ total → (r : Refused) → refused_answer r ≡ refusal numbers.TEXT numbers.HEAD i → Ended key s (drop i s) total (Err r)
+    end_other x = not_fit (λ c rows. ending_other (length s) key c (drop i s) (v ∷ []) (drop n s) e (λ q. x (q ∙ rows)))
 
-    value_is : next ≡ (t.line_is.fits d).0
-    value_is =
-        let one : Line key 1 (drop i s) (t.line_is.fits d).0 (drop n s) = line_back key 1 (drop i s) (t.line_is.fits d).0 (drop n s) read_is in
-        t.written ∙ ap (λ f. stored current 0 (fields_of f)) read_is
-        ∙ stored_all current (t.line_is.fits d).0 (one.width_is ∙ sym one_word)
+    ends : v ≡ total → (c : Contents) → rows_in_all c.tables ≡ total → ending (length s) key c (drop i s) ≡ closed (length s) c (drop n s)
+    ends x c rows = ending_on (length s) key c (drop i s) (v ∷ []) (drop n s) e (x ∙ sym rows)
 
-    pub end_other : at next 0 ≢ total → (a : Answer) → a ≡ refuse numbers.TEXT numbers.HEAD i → Ended key s (drop i s) total a
-    end_other x a q =
-        not_fit (λ c r. ending_other (length s) key c (drop i s) (t.line_is.fits d).0 (drop n s) read_is
-        (λ e. x (ap (λ l. at l 0) value_is ∙ e ∙ r))) a q
+    pub end_behind : v ≡ total → n < length s → (r : Refused) → refused_answer r ≡ refusal numbers.TEXT numbers.HEAD n
+        → Ended key s (drop i s) total (Err r)
+    end_behind x b r q =
+        λ c rows.
+        ends x c rows ∙ ap (closed (length s) c) (drop_next s n b)
+        ∙ ap (λ l. refused (unfit (length s) l)) (sym (drop_next s n b)) ∙ ap refused (unfit_at s n inside ∙ sym q)
 
-    ends : at next 0 ≡ total → (c : Contents) → rows_in_all c.tables ≡ total → ending (length s) key c (drop i s) ≡ closed (length s) c (drop n s)
-    ends x c r =
-        ending_on (length s) key c (drop i s) (t.line_is.fits d).0 (drop n s) read_is (ap (λ l. at l 0) (sym value_is) ∙ x ∙ sym r)
-
-    pub end_behind : at next 0 ≡ total → n < length s → (a : Answer) → a ≡ refuse numbers.TEXT numbers.HEAD n → Ended key s (drop i s) total a
-    end_behind x b a q =
-        record {
-          stopped = λ y c r. ends x c r ∙ ap (closed (length s) c) (drop_next s n b)
-              ∙ ap (λ l. refused (unfit (length s) l)) (sym (drop_next s n b)) ∙ ap refused (unfit_at s n (omega arith) ∙ sym q);
-          went_on = λ z. absurd (text_refuses n a q z);
-          none = λ z. absurd (text_refuses n a q z);
-        }
-
-    pub end_fine : at next 0 ≡ total → length s ≤ n → (a : Answer) → a ≡ accepted → Ended key s (drop i s) total a
-    end_fine x b a q =
-        record {
-          stopped = λ y. absurd (y (ap (λ (r : Answer). r.number) q));
-          went_on = λ z c r. ends x c r ∙ ap (closed (length s) c) (drop_end s n b);
-          none = λ z. q;
-        }
+    pub end_fine : v ≡ total → length s ≤ n → Ended key s (drop i s) total (Ok tt)
+    end_fine x b = λ c rows. ends x c rows ∙ ap (closed (length s) c) (drop_end s n b)
 
 -- a whole text from its parts
 module _ (form : Form) (s : List ℕ) where

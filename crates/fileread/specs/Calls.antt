@@ -1,8 +1,10 @@
 -- What `read` answers, and every lent word afterwards.
 -- Assumes nothing.
-use Rattle.std.specs.Prelude.{◌≡◌, cond, List, [], map, ℕ, ◌*◌, eqb, length, take, replicate}
+use Rattle.std.specs.Prelude.{◌≡◌, cond, Result, Ok, Err, List, [], map, ℕ, ◌*◌, eqb, length, take, replicate}
 use Rattle.lists.specs.Sums.{at}
 use Rattle.answer.specs.declared.Answer.{Answer}
+use Rattle.answer.specs.declared.Refused.{Refused}
+use Rattle.answer.specs.Results.{refused_answer}
 use Rattle.answer.specs.Turns.{accepted}
 use Rattle.tables.specs.declared.Head.{Head}
 use Rattle.tables.specs.declared.Table.{Table}
@@ -12,7 +14,14 @@ use Rattle.text.specs.Places.{stored}
 use Rattle.fileform.specs.Each.{tables_by}
 use Rattle.fileform.specs.Form.{head_count, month_form}
 use Rattle.fileform.specs.Reading.{Outcome, got, refused, Rows, nth, Contents, reading}
-use Rattle.fileread.specs.declared.Reading.{Reading}
+use Rattle.fileread.specs.declared.Held.{Held}
+pub use Rattle.tables.specs.Heads.{head_read}
+
+-- what `read` answers: the refusal or acceptance, the head, and each table's number of rows, by the table's place
+pub record Reading : Type 0 where
+  pub answer : Answer
+  pub head : Head
+  pub counts : List ℕ
 
 -- "Reading wants tables lent at full size (ROOM, naming the first short table)"
 abbrev pub full_size : Table → ℕ → Answer
@@ -25,19 +34,6 @@ read_room lent = tables_in_turn (λ table. full_size table (length (words_of len
 unfoldable pub read_outcome : List ℕ → Tables → Outcome Contents
 read_outcome text lent = cond (eqb (read_room lent).number 0) (reading month_form text) (refused (read_room lent))
 
--- the head of the first lines' numbers: `month`, `days`, `nonzone`, `daily`, `weekly`, `monthly`, `weekday`
-abbrev pub head_read : List ℕ → Head
-head_read ns =
-    record {
-      month = at ns 0;
-      days = at ns 1;
-      nonzone = at ns 2;
-      daily = at ns 3;
-      weekly = at ns 4;
-      monthly = at ns 5;
-      weekday = at ns 6;
-    }
-
 -- "each table's number of rows"
 abbrev pub counts_of : List Rows → List ℕ
 counts_of ts = map (λ (t : Rows). t.count) ts
@@ -46,6 +42,11 @@ counts_of ts = map (λ (t : Rows). t.count) ts
 abbrev pub read_answer : Outcome Contents → Reading
 read_answer (refused a) = record { answer = a; head = head_read (replicate head_count 0); counts = replicate table_count 0 }
 read_answer (got c rest) = record { answer = accepted; head = head_read c.head; counts = counts_of c.tables }
+
+-- the reading that a result of `read` stands for
+abbrev pub held_reading : Result Held Refused → Reading
+held_reading (Ok held) = record { answer = accepted; head = held.head; counts = held.counts }
+held_reading (Err r) = read_answer (refused (refused_answer r))
 
 -- the tables that an outcome holds, none where it is refused
 abbrev pub tables_in : Outcome Contents → List Rows

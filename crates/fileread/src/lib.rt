@@ -5,26 +5,26 @@
 #![tactic(auto)]
 
 ghost use Rattle.tables.specs.Shape.{tables_of};
-ghost use Rattle.fileread.specs.Calls.{Reads};
+ghost use Rattle.fileread.specs.Calls.{Reads, held_reading};
 
-use answer::Answer;
+use answer::Refused;
 use tables::{Head, TABLES};
 
 mod fill;
 mod judge;
 mod room;
 
-// What `read` answers: the refusal or acceptance, the head, and each table's number of rows, by the table's place.
-#[derive(Clone, Copy)]
-pub struct Reading {
-    pub answer: Answer,
+// What an accepted file holds: the head, and each table's number of rows, by the table's place.
+#[derive(Clone, Copy, Debug, PartialEq, Eq)]
+pub struct Held {
     pub head: Head,
     pub counts: [usize; TABLES],
 }
 
 // Reads a month file. ROOM where a table is lent below its full size, naming the first; then the lines in turn: TEXT where a line
 // doesn't fit, with its offset, COUNT where a table has a row too many, with its limit. Accepted: the head, each table's number of
-// rows, and those rows stored at the front of the lent tables. Refused: zeros, and no lent word is changed.
+// rows, and those rows stored at the front of the lent tables. Refused: no lent word is changed.
+// Each table is a parameter of its own, here and in `fill`: an array of `&mut` slices gets no proof where it is handed on.
 pub fn read(
     text: &[u8],
     zones: &mut [u64],
@@ -34,10 +34,10 @@ pub fn read(
     loads: &mut [u64],
     reservations: &mut [u64],
     firm: &mut [u64],
-) -> Reading
-    ensures { Reads text.now (tables_of zones.old owners.old units.old accounts.old loads.old reservations.old firm.old) (tables_of zones.new owners.new units.new accounts.new loads.new reservations.new firm.new) result }
+) -> Result<Held, Refused>
+    ensures { Reads text.now (tables_of zones.old owners.old units.old accounts.old loads.old reservations.old firm.old) (tables_of zones.new owners.new units.new accounts.new loads.new reservations.new firm.new) (held_reading result) }
 {
-    let room = room::judge_room([
+    room::judge_room([
         zones.len(),
         owners.len(),
         units.len(),
@@ -45,21 +45,14 @@ pub fn read(
         loads.len(),
         reservations.len(),
         firm.len(),
-    ]);
-    if room.number != answer::ACCEPTED {
-        return judge::nothing_read(room);
-    }
-    let judged = judge::judge_text(text);
-    let held = judged.held;
-    let answer = held.answer;
-    if answer.number != answer::ACCEPTED {
-        return judge::nothing_read(answer);
-    }
-    let counts = held.counts;
+    ])?;
+    let walk = judge::judge_lines(text)?;
+    judge::judge_end(text, walk.last, walk.rows)?;
+    let held = walk.held;
     fill::fill(
         text,
-        judged.body,
-        counts,
+        walk.body,
+        held.counts,
         zones,
         owners,
         units,
@@ -68,5 +61,5 @@ pub fn read(
         reservations,
         firm,
     );
-    held
+    Ok(held)
 }

@@ -1,34 +1,27 @@
 // ROOM: whether each table is lent at full size.
-ghost use Rattle.std.specs.Prelude.{◌≡◌};
-ghost use Rattle.answer.specs.Turns.{◌then◌};
+ghost use Rattle.answer.specs.Results.{Answers};
 ghost use Rattle.fileread.specs.Calls.{full_size};
 ghost use Rattle.fileread.specs.Steps.{rooms_in_turn};
 
-use answer::Answer;
+use answer::{Refusal, Refused};
 use tables::{TABLES, Table};
 
-// ROOM for a table that is lent below its full size, behind the answer so far.
-fn room_of(before: Answer, table: Table, lent: usize) -> Answer
-    ensures { result ≡ (before then full_size table lent) }
+// ROOM for a table that is lent below its full size.
+fn room_of(table: Table, lent: usize) -> Result<(), Refused>
+    ensures { Answers result (full_size table lent) }
 {
-    let full = tables::limit(table) * tables::width(table);
-    let room = answer::look(lent < full, answer::ROOM, answer::ACCEPTED);
-    answer::look_at(before, room, tables::number(table))
+    if lent < tables::limit(table) * tables::width(table) {
+        return Err(Refusal::Room.at(tables::part(table), 0));
+    }
+    Ok(())
 }
 
 // ROOM for the first table that is lent below its full size, each with so many words, by the table's place.
-pub fn judge_room(lengths: [usize; TABLES]) -> Answer
-    ensures { result ≡ rooms_in_turn lengths }
+pub fn judge_room(lengths: [usize; TABLES]) -> Result<(), Refused>
+    ensures { Answers result (rooms_in_turn lengths) }
 {
-    let mut answer = Answer {
-        number: answer::ACCEPTED,
-        table: answer::HEAD,
-        row: 0,
-    };
-    let mut k = 0;
-    while k < TABLES {
-        answer = room_of(answer, tables::table_at(k), lengths[k]);
-        k += 1;
+    for (k, lent) in lengths.iter().enumerate() {
+        room_of(tables::table_at(k), *lent)?;
     }
-    answer
+    Ok(())
 }

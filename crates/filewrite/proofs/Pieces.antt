@@ -2,16 +2,17 @@
 -- which measure what is left or write it behind what was before.
 -- Assumes nothing.
 use mathlib.Core.Path.{◌≡◌, refl, sym, ap, ap₂, subst, ◌∙◌}
-use mathlib.Core.List.{List, [], ◌∷◌, ◌++◌}
+use mathlib.Core.List.{List, [], ◌∷◌, ◌++◌, map}
 use Prim.Native.Nat.{ℕ, ◌+◌, ◌/◌, ◌≤◌, ◌<◌}
 use native.Mathlib.Nat.{add-zero}
 use native.Mathlib.Omega.{arith}
-use lib.ListN.{length, get_or, drop, length-append}
+use denote.Bor.{Bor}
+use lib.ListN.{length, get_or, drop, length-append, get_or-map}
 use lib.Seq.{get_or-drop, drop-drop}
 use Rattle.lists.specs.Sums.{at}
 use Rattle.tables.specs.declared.Head.{Head}
 use Rattle.tables.specs.declared.Table.{Table}
-use Rattle.tables.specs.Shape.{table_count, table_at, width, Tables, tables_from, words_of}
+use Rattle.tables.specs.Shape.{table_count, table_at, width, Tables, tables_now, words_of}
 use Rattle.tables.proofs.Places.{words_at}
 use Rattle.text.specs.Lines.{line_text}
 use Rattle.text.specs.Places.{PutAt, Sized}
@@ -54,20 +55,18 @@ module _ (a b c whole : List ℕ) (pieces : a ++ (b ++ c) ≡ whole) where
 pub record Piece (from : ℕ → List ℕ) (k : ℕ) (piece : List ℕ) : Type 0 where
   pub splits : from k ≡ piece ++ from (k + 1)
 
--- a loop over such pieces, `most` of them: what is left, measured behind the pieces before, is the whole measured
-pub record Measuring (from : ℕ → List ℕ) (most before cap size k : ℕ) : Type 0 where
-  pub within : k ≤ most
+-- a loop over such pieces: what is left, measured behind the pieces before, is the whole measured
+pub record Measuring (from : ℕ → List ℕ) (before cap size k : ℕ) : Type 0 where
   pub capped : size ≤ cap
   pub whole : (m : ℕ) → Sized size (from k) cap m → Sized before (from 0) cap m
 
-pub measure_start : (from : ℕ → List ℕ) (most before cap : ℕ) → before ≤ cap → Measuring from most before cap before 0
-measure_start from most before cap h = record { within = omega arith; capped = h; whole = λ m e. e }
+pub measure_start : (from : ℕ → List ℕ) (before cap : ℕ) → before ≤ cap → Measuring from before cap before 0
+measure_start from before cap h = record { capped = h; whole = λ m e. e }
 
-module _ {from : ℕ → List ℕ} {most before cap size k : ℕ} (w : Measuring from most before cap size k) where
-  pub measure_next : k < most → {piece : List ℕ} → Piece from k piece → (n : ℕ) → Sized size piece cap n → Measuring from most before cap n (k + 1)
-  measure_next h {piece} p n s =
+module _ {from : ℕ → List ℕ} {before cap size k : ℕ} (w : Measuring from before cap size k) where
+  pub measure_next : {piece : List ℕ} → Piece from k piece → (n : ℕ) → Sized size piece cap n → Measuring from before cap n (k + 1)
+  measure_next {piece} p n s =
       record {
-        within = omega arith;
         capped = sized_most size piece cap n s;
         whole = λ m t. w.whole m (subst (λ l. Sized size l cap m) (sym p.splits) (sized_append size piece (from (k + 1)) cap n m s t));
       }
@@ -78,16 +77,15 @@ module _ {from : ℕ → List ℕ} {most before cap size k : ℕ} (w : Measuring
       w.whole size (subst (λ l. Sized size l cap size) (sym e) (record { capped = omega arith }))
 
 -- .. and what is left, written behind the pieces before, is the whole written, and there is room for it
-pub record Putting (from : ℕ → List ℕ) (most : ℕ) (lent : List ℕ) (at : ℕ) (out : List ℕ) (i k : ℕ) : Type 0 where
-  pub within : k ≤ most
+pub record Putting (from : ℕ → List ℕ) (lent : List ℕ) (at : ℕ) (out : List ℕ) (i k : ℕ) : Type 0 where
   pub same : length out ≡ length lent
   pub room : i + length (from k) ≤ length out
   pub whole : (m : ℕ) (after : List ℕ) → PutAt out i (from k) m after → PutAt lent at (from 0) m after
 
-pub putting_start : (from : ℕ → List ℕ) (most : ℕ) (lent : List ℕ) (at : ℕ) → at + length (from 0) ≤ length lent → Putting from most lent at lent at 0
-putting_start from most lent at h = record { within = omega arith; same = refl; room = h; whole = λ m after e. e }
+pub putting_start : (from : ℕ → List ℕ) (lent : List ℕ) (at : ℕ) → at + length (from 0) ≤ length lent → Putting from lent at lent at 0
+putting_start from lent at h = record { same = refl; room = h; whole = λ m after e. e }
 
-module _ {from : ℕ → List ℕ} {most : ℕ} {lent : List ℕ} {at : ℕ} {out : List ℕ} {i k : ℕ} (w : Putting from most lent at out i k) where
+module _ {from : ℕ → List ℕ} {lent : List ℕ} {at : ℕ} {out : List ℕ} {i k : ℕ} (w : Putting from lent at out i k) where
   module _ {piece : List ℕ} (p : Piece from k piece) where
     length_next : length (from k) ≡ length piece + length (from (k + 1))
     length_next = ap length p.splits ∙ length-append piece (from (k + 1))
@@ -95,11 +93,10 @@ module _ {from : ℕ → List ℕ} {most : ℕ} {lent : List ℕ} {at : ℕ} {ou
     pub putting_fits : i + length piece ≤ length out
     putting_fits = let room : i + length (from k) ≤ length out = w.room in omega (arith, length_next)
 
-    pub putting_next : k < most → (n : ℕ) (after : List ℕ) → PutAt out i piece n after → length after ≡ length out → Putting from most lent at after n (k + 1)
-    putting_next h n after put size =
+    pub putting_next : (n : ℕ) (after : List ℕ) → PutAt out i piece n after → length after ≡ length out → Putting from lent at after n (k + 1)
+    putting_next n after put size =
         let room : i + length (from k) ≤ length out = w.room in
         record {
-          within = omega arith;
           same = size ∙ w.same;
           room = omega (arith, length_next, put.onward);
           whole = λ m last q. w.whole m last (subst (λ l. PutAt out i l m last) (sym p.splits) (put_append out i piece (from (k + 1)) n m after last put q));
@@ -140,21 +137,28 @@ pub rows_end : (t : Tables) (k : ℕ) → table_count ≤ k → rows_from t k �
 unfolding rows_in_all
 rows_end t k h = ap rows_in_all (order_over (whole_rows t) k h)
 
--- the table at a place of a list of tables, and those behind it
-module _ (l : List (List ℕ)) (k : ℕ) (h : k < table_count) (table : Table) (words : List ℕ) (called : table ≡ table_at k) (held : words ≡ get_or l k []) where
-  words_are : words ≡ words_of (tables_from l) (table_at k)
-  words_are = held ∙ words_at l k h
+-- the words of the table at a place of lent tables
+abbrev pub words_here : List (Bor (List ℕ)) → ℕ → List ℕ
+words_here tables k = (get_or tables k (record { ref_ptr = (0, 0); now = [] })).now
 
-  text_on : text_from (tables_from l) k ≡ table_text (table_at k) (words_of (tables_from l) (table_at k)) ++ text_from (tables_from l) (k + 1)
+-- that table, and those behind it
+module _ (tables : List (Bor (List ℕ))) (k : ℕ) (h : k < table_count) {table : Table} (called : table ≡ table_at k) where
+  abbrev lent : Tables
+  lent = tables_now tables
+
+  words_are : words_here tables k ≡ words_of lent (table_at k)
+  words_are = sym (get_or-map (λ x. x.now) tables k (record { ref_ptr = (0, 0); now = [] })) ∙ words_at (map (λ x. x.now) tables) k h
+
+  text_on : text_from lent k ≡ table_text (table_at k) (words_of lent (table_at k)) ++ text_from lent (k + 1)
   unfolding tables_text
-  text_on = ap₂ tables_text (order_drop kind_of k h) (order_drop (whole_rows (tables_from l)) k h)
+  text_on = ap₂ tables_text (order_drop kind_of k h) (order_drop (whole_rows lent) k h)
 
-  pub table_piece : Piece (text_from (tables_from l)) k (table_text table words)
-  table_piece = record { splits = text_on ∙ ap₂ (λ t w. table_text t w ++ text_from (tables_from l) (k + 1)) (sym called) (sym words_are) }
+  pub table_piece : Piece (text_from lent) k (table_text table (words_here tables k))
+  table_piece = record { splits = text_on ∙ ap₂ (λ t w. table_text t w ++ text_from lent (k + 1)) (sym called) (sym words_are) }
 
-  rows_on : rows_from (tables_from l) k ≡ length (words_of (tables_from l) (table_at k)) / width (table_at k) + rows_from (tables_from l) (k + 1)
+  rows_on : rows_from lent k ≡ length (words_of lent (table_at k)) / width (table_at k) + rows_from lent (k + 1)
   unfolding rows_in_all
-  rows_on = ap rows_in_all (order_drop (whole_rows (tables_from l)) k h)
+  rows_on = ap rows_in_all (order_drop (whole_rows lent) k h)
 
-  pub rows_next : rows_from (tables_from l) k ≡ length words / width table + rows_from (tables_from l) (k + 1)
-  rows_next = rows_on ∙ ap₂ (λ t w. length w / width t + rows_from (tables_from l) (k + 1)) (sym called) (sym words_are)
+  pub rows_next : rows_from lent k ≡ length (words_here tables k) / width table + rows_from lent (k + 1)
+  rows_next = rows_on ∙ ap₂ (λ t w. length w / width t + rows_from lent (k + 1)) (sym called) (sym words_are)

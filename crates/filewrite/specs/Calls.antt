@@ -1,9 +1,11 @@
 -- What `write` answers, and every lent byte afterwards.
 -- Assumes nothing.
-use Rattle.std.specs.Prelude.{◌≡◌, cond, List, [], ◌∷◌, ℕ, ◌/◌, eqb, length}
+use Rattle.std.specs.Prelude.{◌≡◌, cond, Result, Ok, Err, List, [], ℕ, ◌/◌, eqb, length}
 use Rattle.answer.specs.declared.Answer.{Answer}
+use Rattle.answer.specs.declared.Refused.{Refused}
 use Rattle.answer.specs.Numbers as answers
-use Rattle.answer.specs.Turns.{◌then◌}
+use Rattle.answer.specs.Turns.{accepted, ◌then◌}
+use Rattle.answer.specs.Results.{refused_answer}
 use Rattle.tables.specs.declared.Head.{Head}
 use Rattle.tables.specs.declared.Table.{Table}
 use Rattle.tables.specs.Shape.{width, Tables, words_of}
@@ -13,11 +15,17 @@ use Rattle.fileform.specs.Each.{in_order}
 use Rattle.fileform.specs.Form.{month_form}
 use Rattle.fileform.specs.Reading.{Rows, Contents}
 use Rattle.fileform.specs.Writing.{file_text}
-use Rattle.filewrite.specs.declared.Written.{Written}
+pub use Rattle.tables.specs.Heads.{numbers_of}
 
--- the numbers of the first lines: `month`, `days`, `nonzone`, `daily`, `weekly`, `monthly`, `weekday`
-abbrev pub numbers_of : Head → List ℕ
-numbers_of head = head.month ∷ head.days ∷ head.nonzone ∷ head.daily ∷ head.weekly ∷ head.monthly ∷ head.weekday ∷ []
+-- what `write` answers: the refusal or acceptance, and the text's length
+pub record Written : Type 0 where
+  pub answer : Answer
+  pub length : ℕ
+
+-- what a result of `write` stands for: a refusal has length 0
+abbrev pub written_of : Result ℕ Refused → Written
+written_of (Ok size) = record { answer = accepted; length = size }
+written_of (Err r) = record { answer = refused_answer r; length = 0 }
 
 -- a table's whole rows
 abbrev pub whole_rows : Tables → Table → Rows

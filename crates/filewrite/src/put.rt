@@ -1,6 +1,6 @@
 // The text of a month, measured and written: the first lines, the tables, the last line.
-ghost use Rattle.std.specs.Prelude.{◌≡◌, [], ◌∷◌, map, ◌+◌, ◌≤◌, length};
-ghost use Rattle.tables.specs.Shape.{tables_from};
+ghost use Rattle.std.specs.Prelude.{◌≡◌, [], ◌∷◌, ◌+◌, ◌≤◌, length};
+ghost use Rattle.tables.specs.Shape.{tables_now};
 ghost use Rattle.text.specs.Lines.{line_text};
 ghost use Rattle.text.specs.Places.{PutAt, Sized};
 ghost use Rattle.fileform.specs.Form.{month_form};
@@ -11,31 +11,14 @@ use crate::rows;
 use fileform::{head, keys, table};
 use tables::{HEADS, Head, TABLES};
 
-// The numbers of the first lines.
-fn numbers_of(head: Head) -> [u64; HEADS]
-    ensures { result ≡ numbers_of head }
-{
-    [
-        head.month,
-        head.days,
-        head.nonzone,
-        head.daily,
-        head.weekly,
-        head.monthly,
-        head.weekday,
-    ]
-}
-
 // The first lines in turn, measured.
 fn heads_size(head: Head, cap: usize) -> usize
     ensures { Sized 0 (heads_text month_form.heads (numbers_of head)) cap result }
 {
-    let numbers = numbers_of(head);
+    let numbers = <[u64; HEADS]>::from(head);
     let mut size = 0;
-    let mut k = 0;
-    while k < HEADS {
-        size = head::head_size(k, numbers[k], size, cap);
-        k += 1;
+    for (k, number) in numbers.iter().enumerate() {
+        size = head::head_size(k, *number, size, cap);
     }
     size
 }
@@ -45,12 +28,10 @@ fn put_heads(head: Head, out: &mut [u8]) -> usize
     requires { 0 + length (heads_text month_form.heads (numbers_of head)) ≤ length out.old }
     ensures { PutAt out.old 0 (heads_text month_form.heads (numbers_of head)) result out.new }
 {
-    let numbers = numbers_of(head);
+    let numbers = <[u64; HEADS]>::from(head);
     let mut i = 0;
-    let mut k = 0;
-    while k < HEADS {
-        i = head::put_head(k, numbers[k], out, i);
-        k += 1;
+    for (k, number) in numbers.iter().enumerate() {
+        i = head::put_head(k, *number, out, i);
     }
     i
 }
@@ -58,29 +39,23 @@ fn put_heads(head: Head, out: &mut [u8]) -> usize
 // The tables in turn, measured.
 fn tables_size<'a>(tables: [&'a [u64]; TABLES], before: usize, cap: usize) -> usize
     requires { before ≤ cap }
-    ensures { Sized before (tables_text month_form.kinds (all_rows (tables_from (map (λ x. x.now) tables.entry)))) cap result }
+    ensures { Sized before (tables_text month_form.kinds (all_rows (tables_now tables.entry))) cap result }
 {
     let mut size = before;
-    let mut k = 0;
-    while k < TABLES {
-        let words = tables[k];
+    for (k, words) in tables.iter().enumerate() {
         size = table::table_size(tables::table_at(k), words, size, cap);
-        k += 1;
     }
     size
 }
 
 // The tables in turn, written from `at` on.
 fn put_tables<'a>(tables: [&'a [u64]; TABLES], out: &mut [u8], at: usize) -> usize
-    requires { at + length (tables_text month_form.kinds (all_rows (tables_from (map (λ x. x.now) tables)))) ≤ length out.old }
-    ensures { PutAt out.old at (tables_text month_form.kinds (all_rows (tables_from (map (λ x. x.now) tables.entry)))) result out.new }
+    requires { at + length (tables_text month_form.kinds (all_rows (tables_now tables))) ≤ length out.old }
+    ensures { PutAt out.old at (tables_text month_form.kinds (all_rows (tables_now tables.entry))) result out.new }
 {
     let mut i = at;
-    let mut k = 0;
-    while k < TABLES {
-        let words = tables[k];
+    for (k, words) in tables.iter().enumerate() {
         i = table::put_table(tables::table_at(k), words, out, i);
-        k += 1;
     }
     i
 }
@@ -89,21 +64,19 @@ fn end_size(total: u64, before: usize, cap: usize) -> usize
     requires { before ≤ cap }
     ensures { Sized before (line_text month_form.last (total ∷ [])) cap result }
 {
-    let rows = [total];
-    text::line::line_size(&keys::END, &rows, 0, 1, before, cap)
+    text::line::line_size(keys::END, &[total], before, cap)
 }
 
 fn put_end(total: u64, out: &mut [u8], at: usize) -> usize
     requires { at + length (line_text month_form.last (total ∷ [])) ≤ length out.old }
     ensures { PutAt out.old at (line_text month_form.last (total ∷ [])) result out.new }
 {
-    let rows = [total];
-    text::line::put_line(&keys::END, &rows, 0, 1, out, at)
+    text::line::put_line(keys::END, &[total], out, at)
 }
 
 // The length of a month's text, up to a cap.
 pub fn text_size<'a>(head: Head, tables: [&'a [u64]; TABLES], cap: usize) -> usize
-    ensures { Sized 0 (month_text head (tables_from (map (λ x. x.now) tables.entry))) cap result }
+    ensures { Sized 0 (month_text head (tables_now tables.entry)) cap result }
 {
     let heads = heads_size(head, cap);
     let rows = tables_size(tables, heads, cap);
@@ -112,8 +85,8 @@ pub fn text_size<'a>(head: Head, tables: [&'a [u64]; TABLES], cap: usize) -> usi
 
 // Writes a month's text to the front of `out`, and answers its length.
 pub fn put_text<'a>(head: Head, tables: [&'a [u64]; TABLES], out: &mut [u8]) -> usize
-    requires { 0 + length (month_text head (tables_from (map (λ x. x.now) tables))) ≤ length out.old }
-    ensures { PutAt out.old 0 (month_text head (tables_from (map (λ x. x.now) tables.entry))) result out.new }
+    requires { 0 + length (month_text head (tables_now tables)) ≤ length out.old }
+    ensures { PutAt out.old 0 (month_text head (tables_now tables.entry)) result out.new }
 {
     let heads = put_heads(head, out);
     let rows = put_tables(tables, out, heads);

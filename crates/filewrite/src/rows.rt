@@ -1,6 +1,6 @@
 // How many rows there are in all, which the last line says.
-ghost use Rattle.std.specs.Prelude.{◌≡◌, map};
-ghost use Rattle.tables.specs.Shape.{tables_from};
+ghost use Rattle.std.specs.Prelude.{◌≡◌};
+ghost use Rattle.tables.specs.Shape.{tables_now};
 ghost use Rattle.fileform.specs.Reading.{rows_in_all};
 ghost use Rattle.filewrite.specs.Calls.{all_rows};
 ghost use Rattle.filewrite.specs.Steps.{RowsCounted};
@@ -16,14 +16,11 @@ fn rows_of(table: Table, words: &[u64]) -> u64
 
 // How many rows there are in all.
 pub fn rows_in_all<'a>(tables: [&'a [u64]; TABLES]) -> u64
-    ensures { result ≡ rows_in_all (all_rows (tables_from (map (λ x. x.now) tables.entry))) }
+    ensures { result ≡ rows_in_all (all_rows (tables_now tables.entry)) }
 {
-    let mut rows: u64 = 0;
-    let mut k = 0;
-    while k < TABLES {
-        let words = tables[k];
+    let mut rows = 0;
+    for (k, words) in tables.iter().enumerate() {
         rows += rows_of(tables::table_at(k), words);
-        k += 1;
     }
     rows
 }

@@ -5,31 +5,29 @@ use mathlib.Core.Path.{◌≡◌, sym, ap, ap₂, ◌∙◌}
 use mathlib.Core.Logic.{◌≢◌}
 use mathlib.Core.List.{List}
 use Prim.Native.Nat.{ℕ, ◌+◌, ◌≤◌, ◌<◌, ◌^◌}
-use native.Mathlib.Nat.{le_trans}
 use native.Mathlib.Omega.{arith}
 use lib.ListN.{length, take, drop}
 use lib.Seq.{take_at, get_or-take}
 use borrow.Author.Tests.{ne_eqb}
 use Rattle.lists.specs.Sums.{at, total}
 use Rattle.lists.specs.Entries.{put}
-use Rattle.lists.proofs.Entries.{length_listed, take_put}
+use Rattle.lists.proofs.Entries.{take_put}
 use Rattle.division.specs.Limits.{most_weights, size_refusal}
 use Rattle.division.specs.Shares.{shares, Divided}
-use Rattle.division.specs.declared.Division.{Division}
 use Rattle.division.proofs.Laws.{length_shares, share_fits, by_size, memory_accepted}
 use Rattle.groups.specs.Groups.{among}
 use Rattle.groups.specs.Columns.{Addable, Added, MembersKept}
 
-module _ {pot : ℕ} {weights lent after : List ℕ} {d : Division} (made : Divided pot weights lent after d)
+module _ {pot : ℕ} {weights lent after : List ℕ} {r : ℕ} (made : Divided pot weights lent after r)
     (few : length weights ≤ most_weights) (long : length weights ≤ length lent)
   where
-    pub number_by_size : d.answer.number ≡ size_refusal pot (total weights)
+    pub number_by_size : r ≡ size_refusal pot (total weights)
     number_by_size = made.number ∙ by_size pot weights (length lent) few long
 
-    pub refused_adds_none : (column : List ℕ) → d.answer.number ≢ 0 → Added pot weights column column d.answer.number
-    refused_adds_none column bad = record { number = number_by_size; lent = rw (ne_eqb d.answer.number 0 bad) }
+    pub refused_adds_none : (column : List ℕ) → r ≢ 0 → Added pot weights column column r
+    refused_adds_none column bad = record { number = number_by_size; lent = rw (ne_eqb r 0 bad) }
 
-    module _ (fine : d.answer.number ≡ 0) where
+    module _ (fine : r ≡ 0) where
       front : take (length weights) after ≡ shares pot weights
       front =
           ap (take (length weights)) (made.lent ∙ memory_accepted pot weights lent (sym made.number ∙ fine))
@@ -39,18 +37,14 @@ module _ {pot : ℕ} {weights lent after : List ℕ} {d : Division} (made : Divi
       pub share_written : (i : ℕ) → i < length weights → at after i ≡ at (shares pot weights) i
       share_written i b = sym (get_or-take (length weights) after i 0 b) ∙ ap (λ l. at l i) front
 
-      pub front_long : length (take (length weights) after) ≡ length weights
+      front_long : length (take (length weights) after) ≡ length weights
       front_long = ap length front ∙ length_shares pot weights
 
       pub ready_to_add : (column : List ℕ) → Addable (length weights) column
-          → (length (take (length weights) after) ≤ length column)
-          × ((i : ℕ) → i < length (take (length weights) after) → at column i + at (take (length weights) after) i < 2 ^ 64)
-      ready_to_add column a = (
-        le_trans (omega (arith, front_long)) a.long,
-        (λ i b.
-            let share : at (take (length weights) after) i ≡ at (shares pot weights) i = ap (λ l. at l i) front in
-            omega (arith, a.room i (omega (arith, front_long)), share_fits pot weights (sym number_by_size ∙ fine) i)),
-      )
+          → (i : ℕ) → i < length (take (length weights) after) → at column i + at (take (length weights) after) i < 2 ^ 64
+      ready_to_add column a i b =
+          let share : at (take (length weights) after) i ≡ at (shares pot weights) i = ap (λ l. at l i) front in
+          omega (arith, a.room i (omega (arith, front_long)), share_fits pot weights (sym number_by_size ∙ fine) i)
 
       pub accepted_adds : (column added : List ℕ)
           → added ≡ put (length (take (length weights) after)) (λ i. at column i + at (take (length weights) after) i) column
@@ -68,7 +62,3 @@ module _ {weights groups : List ℕ} {group : ℕ} {lent after : List ℕ} (kept
     pub kept_front : take (length weights) after ≡ among (length weights) (at groups) (at weights) group
     unfolding among
     kept_front = ap (take (length weights)) kept.lent ∙ take_put (length weights) _ lent long
-
-    pub kept_long : length (take (length weights) after) ≡ length weights
-    unfolding among
-    kept_long = ap length kept_front ∙ length_listed (length weights) _

@@ -1,4 +1,5 @@
 pub mod Storing
+pub mod Placing
 pub mod Adding
 pub mod Summing
 pub mod Members

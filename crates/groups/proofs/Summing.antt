@@ -1,11 +1,12 @@
 -- The loop over the groups: at its start nothing is divided, each turn adds one group's shares, a refusal is the first one, and
 -- at the end the column holds what each member has in all.
 -- Assumes nothing.
-use mathlib.Core.Path.{◌≡◌, refl, sym, ap, ◌∙◌}
-use mathlib.Core.Logic.{⊎_elim, ◌≢◌}
+use Rattle.std.specs.Prelude.{Result, Err}
+use mathlib.Core.Path.{◌≡◌, sym, ap, ◌∙◌}
+use mathlib.Core.Logic.{⊎_elim}
 use mathlib.Core.List.{List}
 use Prim.Native.Nat.{ℕ, ◌+◌, ◌*◌, ◌≤◌, ◌<◌}
-use native.Mathlib.Nat.{le_trans, le_of_eq}
+use native.Mathlib.Nat.{le_trans, le_of_eq, le_antisymm}
 use native.Mathlib.Numerals.{add-one}
 use native.Mathlib.Omega.{arith}
 use lib.ListN.{length, replicate, get_or-replicate}
@@ -14,15 +15,20 @@ use Rattle.lists.specs.Sums.{sum_to, at}
 use Rattle.lists.specs.Entries.{put}
 use Rattle.lists.proofs.Sums.{last_or_below, sum_none, sum_suc, sum_le, sum_const}
 use Rattle.lists.proofs.Entries.{length_listed, length_put, at_put}
-use Rattle.answer.specs.declared.Answer.{Answer}
+use Rattle.answer.specs.declared.Refusal.{Refusal}
+use Rattle.answer.specs.declared.Refused.{Refused}
+use Rattle.answer.specs.declared.Part.TheVariants.{Divisions}
 use Rattle.answer.specs.Numbers.{DIVISIONS}
 use Rattle.answer.specs.Turns.{accepted, refuse}
+use Rattle.answer.specs.Results.{refused_answer, result_number, place_result}
+use Rattle.answer.proofs.Results.{refused_some}
 use Rattle.answer.proofs.Turns.{refuse_none, refuse_number, turns_none, turns_stop}
 use Rattle.division.specs.Limits.{most_weights, pot_limit}
 use Rattle.division.proofs.Laws.{share_fits}
 use Rattle.groups.specs.Groups.{Pots, among, weights_in, amount, amount_in_all, group_refusal, groups_in_turn, most_groups}
 use Rattle.groups.specs.Columns.{Addable, Added}
 use Rattle.groups.specs.Steps.{Summed, GoneThrough}
+use Rattle.groups.proofs.Placing.{placed_some, placed_refuses}
 
 pub length_weights : (p : Pots) (z : ℕ) → length (weights_in p z) ≡ p.members
 unfolding weights_in among
@@ -84,34 +90,30 @@ module _ {p : Pots} {z : ℕ} {column : List ℕ} (s : Summed p z column) where
   none_before place y b = refuse_none (group_refusal p y) DIVISIONS (place + y) (s.fine y b)
 
   -- group z is the first that is refused
-  pub summed_stop : (place : ℕ) → z < p.groups → (after : List ℕ) (number : ℕ) (r : Answer)
-      → Added (p.pot z) (weights_in p z) column after number → number ≢ 0 → r ≡ refuse number DIVISIONS (place + z)
-      → GoneThrough p place after r
+  pub summed_stop : (place : ℕ) → z < p.groups → (after : List ℕ) (divided : Result (Unit {0}) Refusal) (r : Refused)
+      → Added (p.pot z) (weights_in p z) column after (result_number divided)
+      → Err r ≡ place_result divided Divisions (place + z) → GoneThrough p place after (refused_answer r)
   unfolding groups_in_turn group_refusal
-  summed_stop place b after number r a bad e =
-      let refused : r.number ≢ 0 =
-      λ o. bad (sym (refuse_number number DIVISIONS (place + z)) ∙ ap (λ (q : Answer). q.number) (sym e) ∙ o) in
+  summed_stop place b after divided r a e =
+      let bad = placed_some divided Divisions (place + z) r e in
       record {
         answers =
-            e
+            placed_refuses divided Divisions (place + z) r e
             ∙ ap (λ n. refuse n DIVISIONS (place + z)) a.number
             ∙ sym
             (turns_stop (λ y. refuse (group_refusal p y) DIVISIONS (place + y)) p.groups z b (none_before place)
             (λ o. bad (a.number ∙ sym (refuse_number (group_refusal p z) DIVISIONS (place + z)) ∙ o)));
-        long = λ o. absurd (refused o);
-        values = λ o. absurd (refused o);
+        long = λ o. absurd (refused_some r o);
+        values = λ o. absurd (refused_some r o);
       }
 
   -- all groups are divided
-  pub summed_all : (place : ℕ) → z ≡ p.groups → (r : Answer) → r ≡ refuse 0 DIVISIONS place
-      → GoneThrough p place column r
+  pub summed_all : (place : ℕ) → p.groups ≤ z → z ≤ p.groups → GoneThrough p place column accepted
   unfolding groups_in_turn amount_in_all
-  summed_all place e r o =
+  summed_all place h k =
+      let e : z ≡ p.groups = le_antisymm k h in
       record {
-        answers =
-            o
-            ∙ refuse_none 0 DIVISIONS place refl
-            ∙ sym (turns_none (λ y. refuse (group_refusal p y) DIVISIONS (place + y)) p.groups (λ y b. none_before place y (rw e b)));
+        answers = sym (turns_none (λ y. refuse (group_refusal p y) DIVISIONS (place + y)) p.groups (λ y b. none_before place y (rw e b)));
         long = λ n. s.long;
         values = λ n i b. s.sums i b ∙ ap (λ k. sum_to k (λ y. amount p y i)) e;
       }

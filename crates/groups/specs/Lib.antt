@@ -1,3 +1,4 @@
 pub mod Columns
 pub mod Groups
+pub mod Lists
 pub mod Steps

@@ -5,32 +5,32 @@
 
 ghost use Rattle.std.specs.Prelude.{◌≡◌, ◌+◌, ◌≤◌, ◌<◌, ◌^◌, length};
 ghost use Rattle.lists.specs.Sums.{at};
+ghost use Rattle.answer.specs.Results.{result_number, result_answer};
 ghost use Rattle.groups.specs.Columns.{Addable, Added};
-ghost use Rattle.groups.specs.Groups.{among, pots_of, Grouped, Together};
+ghost use Rattle.groups.specs.Groups.{among, Grouped};
+ghost use Rattle.groups.specs.Lists.{pots_in};
 ghost use Rattle.groups.specs.Steps.{Summed, GoneThrough};
 
-use answer::{ACCEPTED, Answer, DIVISIONS};
+use answer::{Part, Refusal, Refused, placed};
+pub use together::GroupPots;
 
 pub mod columns;
+mod together;
 
 // How many members there can be.
 pub const MOST_MEMBERS: usize = 64;
 
-// Divides a pot among all by weight and adds each share to its word of the column. Answers BIG, BASE or 0; a refusal leaves the
-// column as it was.
-pub fn divide_all(pot: u64, weights: &[u64], column: &mut [u64]) -> u64
+// Divides a pot among all by weight and adds each share to its word of the column. Refuses with BIG, then BASE; a refusal leaves
+// the column as it was.
+pub fn divide_all(pot: u64, weights: &[u64], column: &mut [u64]) -> Result<(), Refusal>
     requires { Addable (length weights.now) column.old }
-    ensures { Added pot weights.now column.old column.new result }
+    ensures { Added pot weights.now column.old column.new (result_number result) }
 {
     let count = weights.len();
     let mut shares = [0u64; MOST_MEMBERS];
-    let division = division::divide(pot, weights, &mut shares);
-    let number = division.answer.number;
-    if number != ACCEPTED {
-        return number;
-    }
+    division::divide(pot, weights, &mut shares)?;
     columns::add(&shares[..count], column);
-    ACCEPTED
+    Ok(())
 }
 
 // The same among the members of one group.
@@ -40,10 +40,10 @@ pub fn divide_among(
     groups: &[u64],
     group: u64,
     column: &mut [u64],
-) -> u64
+) -> Result<(), Refusal>
     requires addable { Addable (length weights.now) column.old }
     requires groups_len { length groups.now ≡ length weights.now }
-    ensures { Added pot (among (length weights.now) (at groups.now) (at weights.now) group) column.old column.new result }
+    ensures { Added pot (among (length weights.now) (at groups.now) (at weights.now) group) column.old column.new (result_number result) }
 {
     let count = weights.len();
     let mut members = [0u64; MOST_MEMBERS];
@@ -52,53 +52,29 @@ pub fn divide_among(
 }
 
 // Each group's pot in turn, added to a column of zeros, until the first refusal.
-fn go_through(
-    pots: &[u64],
-    numbers: &[u64],
-    weights: &[u64],
-    groups: &[u64],
-    column: &mut [u64],
-    place: u64,
-) -> Answer
-    requires together { Together pots.now numbers.now weights.now groups.now }
-    requires summed { Summed (pots_of pots.now numbers.now weights.now groups.now) 0 column.old }
-    requires numbers_bound { place + length numbers.now < 2 ^ 64 }
-    ensures { GoneThrough (pots_of pots.now numbers.now weights.now groups.now) place column.new result }
+fn go_through(lists: GroupPots, column: &mut [u64], place: u64) -> Result<(), Refused>
+    requires summed { Summed (pots_in lists) 0 column.old }
+    requires numbers_bound { place + length lists.numbers.now < 2 ^ 64 }
+    ensures { GoneThrough (pots_in lists.entry) place column.new (result_answer result) }
 {
-    let mut z = 0;
-    while z < numbers.len() {
-        let number = divide_among(pots[z], weights, groups, numbers[z], column);
-        if number != ACCEPTED {
-            return answer::refused(number, DIVISIONS, place + z as u64);
-        }
-        z += 1;
+    for (z, &number) in lists.numbers.iter().enumerate() {
+        let divided = divide_among(lists.pots[z], lists.weights, lists.groups, number, column);
+        placed(divided, Part::Divisions, place + z as u64)?;
     }
-    answer::refused(ACCEPTED, DIVISIONS, place)
+    Ok(())
 }
 
 // One division for each group in turn: each pot among the members of its group, by weight. Writes what each member has from all
 // groups to the first words of the column. Refuses with BIG, then BASE, at the first division that is refused; the divisions'
 // places count up from `place`. A refusal writes nothing.
-pub fn each_group(
-    pots: &[u64],
-    numbers: &[u64],
-    weights: &[u64],
-    groups: &[u64],
-    column: &mut [u64],
-    place: u64,
-) -> Answer
-    requires together { Together pots.now numbers.now weights.now groups.now }
-    requires weights_in_bounds { length weights.now ≤ length column.old }
-    requires numbers_bound { place + length numbers.now < 2 ^ 64 }
-    ensures { Grouped (pots_of pots.now numbers.now weights.now groups.now) place column.old column.new result }
+pub fn each_group(lists: GroupPots, column: &mut [u64], place: u64) -> Result<(), Refused>
+    requires weights_in_bounds { length lists.weights.now ≤ length column.old }
+    requires numbers_bound { place + length lists.numbers.now < 2 ^ 64 }
+    ensures { Grouped (pots_in lists.entry) place column.old column.new (result_answer result) }
 {
-    let count = weights.len();
+    let count = lists.weights.len();
     let mut sums = [0u64; MOST_MEMBERS];
-    let answer = go_through(pots, numbers, weights, groups, &mut sums, place);
-    let number = answer.number;
-    if number != ACCEPTED {
-        return answer;
-    }
+    go_through(lists, &mut sums, place)?;
     columns::store(&sums[..count], column);
-    answer
+    Ok(())
 }

@@ -2,7 +2,7 @@
 -- division only its contract and its laws are cited.
 -- Assumes nothing.
 use mathlib.Core.Path.{◌≡◌, sym, ap, ◌∙◌}
-use mathlib.Core.Logic.{◌≢◌}
+use mathlib.Core.Logic.{◌⊎◌, ⊎_elim, ◌≢◌}
 use mathlib.Core.Bool.{true, cond}
 use mathlib.Core.List.{List, ◌++◌, append_assoc}
 use Prim.Native.Nat.{ℕ, ◌+◌, ◌*◌, ◌/◌, ◌≤◌, ◌<◌, min}
@@ -12,10 +12,7 @@ use lib.Seq.{take_at}
 use borrow.Author.Tests.{eq-eqb, ne_eqb}
 use Rattle.division.specs.Limits.{most_weights, divide_refusal}
 use Rattle.division.specs.Shares.{shares, Divided}
-use Rattle.verdict.specs.Check.{verdict}
-use Rattle.division.specs.declared.Division.{Division}
-use Rattle.verdict.specs.declared.Verdict.{Verdict}
-use Rattle.verdict.specs.declared.Verdict.TheVariants.{Refused}
+use Rattle.verdict.specs.Check.{verdict, Verdict, Refused}
 use Rattle.division.proofs.Laws as laws
 use Rattle.verdict.proofs.Laws as verdicts
 use Rattle.words.specs.Words.{is_uneven, WholeWords, numbers, bytes_of}
@@ -73,31 +70,49 @@ module _ (pot : ℕ) (weights amounts : List ℕ) where
       (λ e. d (let words : length amounts / 8 ≡ length weights / 8 = sym (length_numbers amounts) ∙ e ∙ length_numbers weights in
       omega (arith, w.these_whole, w.those_whole)))))
 
+  -- lengths that a call does not take: each of the two ways is COUNT, of a division ..
+  pub divide_count : (is_uneven (length weights) (length amounts) ≡ true) ⊎ (WholeWords weights amounts × (most_weights < length weights / 8))
+      → HostDivided pot weights amounts amounts 1
+  divide_count why =
+      ⊎_elim
+      (λ (e : is_uneven (length weights) (length amounts) ≡ true). refused 1 (divide_uneven e) (λ z. omega arith))
+      (λ (m : WholeWords weights amounts × (most_weights < length weights / 8)). refused 1 (divide_many m.0 m.1) (λ z. omega arith))
+      why
+
+  -- .. and of a check
+  pub check_count : (is_uneven (length weights) (length amounts) ≡ true) ⊎ (WholeWords weights amounts × (most_weights < length weights / 8))
+      → 1 ≡ host_verdict pot weights amounts
+  check_count why =
+      ⊎_elim
+      (λ (e : is_uneven (length weights) (length amounts) ≡ true). check_uneven e)
+      (λ (m : WholeWords weights amounts × (most_weights < length weights / 8)). check_many m.0 m.1)
+      why
+
   -- what the division of the numbers leaves in as much room as 64 weights can want
   module _ (w : WholeWords weights amounts) (few : length weights / 8 ≤ most_weights) (room : ℕ) (is-room : room ≡ min (length amounts / 8) 64)
-      (out out' : List ℕ) (long : length out ≡ room) (r : Division) (made : Divided pot (numbers weights) out out' r)
+      (out out' : List ℕ) (long : length out ≡ room) (r : ℕ) (made : Divided pot (numbers weights) out out' r)
     where
-      pub number_is : host_divide_refusal pot weights amounts ≡ r.answer.number
+      pub number_is : host_divide_refusal pot weights amounts ≡ r
       number_is =
           refusal_even w
           ∙ sym (laws.enough_room pot (numbers weights) (length amounts / 8) (rw length_numbers few))
           ∙ ap (divide_refusal pot (numbers weights)) (sym (long ∙ is-room))
           ∙ sym made.number
 
-      pub fits : r.answer.number ≡ 0 → 8 * (length weights / 8) ≤ length amounts
+      pub fits : r ≡ 0 → 8 * (length weights / 8) ≤ length amounts
       fits e =
           let inside : length (numbers weights) ≤ length out = (laws.divide_accepted pot (numbers weights) (length out) (sym made.number ∙ e)).1 in
           let words : length (numbers weights) ≡ length weights / 8 = length_numbers weights in
           omega arith
 
-      pub shares_first : r.answer.number ≡ 0 → (rest : List ℕ) → take (length weights / 8) (out' ++ rest) ≡ shares pot (numbers weights)
+      pub shares_first : r ≡ 0 → (rest : List ℕ) → take (length weights / 8) (out' ++ rest) ≡ shares pot (numbers weights)
       shares_first e rest =
           ap (λ l. take (length weights / 8) (l ++ rest)) (made.lent ∙ laws.memory_accepted pot (numbers weights) out (sym made.number ∙ e))
           ∙ ap (take (length weights / 8)) (append_assoc (shares pot (numbers weights)) (drop (length (numbers weights)) out) rest)
           ∙ take_at (shares pot (numbers weights)) (drop (length (numbers weights)) out ++ rest) (length weights / 8)
           (laws.length_shares pot (numbers weights) ∙ length_numbers weights)
 
-      pub divided : r.answer.number ≡ 0 → (after : List ℕ)
+      pub divided : r ≡ 0 → (after : List ℕ)
           → after ≡ bytes_of (shares pot (numbers weights)) ++ drop (8 * length (shares pot (numbers weights))) amounts
           → HostDivided pot weights amounts after 0
       unfolding host_memory

@@ -9,10 +9,8 @@ use lib.ListN.{length, take}
 use Rattle.lists.specs.Sums.{total}
 use Rattle.answer.specs.Numbers.{BASE}
 use Rattle.closeness.specs.Closeness.{Closest}
-use Rattle.verdict.specs.Check.{verdict, yes, no, neither, meaning}
+use Rattle.verdict.specs.Check.{Verdict, Yes, No, Refused, verdict, yes, no, neither, meaning}
 use Rattle.verdict.specs.Refused.{FineCheck}
-use Rattle.verdict.specs.declared.Verdict.{Verdict}
-use Rattle.verdict.specs.declared.Verdict.TheVariants.{Yes, No, Refused}
 use Rattle.verdict.proofs.Laws as verdicts
 use Rattle.words.specs.Words.{WholeWords, numbers}
 use Rattle.words.proofs.Whole as lent

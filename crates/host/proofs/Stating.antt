@@ -13,7 +13,7 @@ use Rattle.answer.specs.Numbers.{ROOM, HEAD}
 use Rattle.answer.proofs.Turns.{refuse_none, refuse_number}
 use Rattle.text.specs.Places.{stored}
 use Rattle.text.proofs.Stores.{stored_in_front, stored_none}
-use Rattle.statement_lines.specs.declared.Shown.{Shown}
+use Rattle.statement_lines.specs.Calls.{Shown}
 use Rattle.statement_text.specs.Statement.{most_shown, statement_of}
 use Rattle.statement_text.specs.Calls.{fitting, Shows}
 use Rattle.statement_text.proofs.Promises.{statement_is_short}

@@ -1,12 +1,12 @@
 -- What the phone app's calls answer and leave in the lent bytes.
 -- Assumes nothing.
-use Rattle.std.specs.Prelude.{◌≡◌, ℕ, ◌+◌, ◌*◌, ◌/◌, cond, List, ◌++◌, eqb, length, drop}
+use Rattle.std.specs.Prelude.{◌≡◌, ℕ, ◌+◌, ◌*◌, ◌/◌, cond, Bool, Result, List, ◌++◌, eqb, length, drop}
 use Rattle.answer.specs.Numbers.{COUNT, HEAD}
 use Rattle.answer.specs.Turns.{look}
 use Rattle.division.specs.Limits.{divide_refusal}
 use Rattle.division.specs.Shares.{shares}
-use Rattle.verdict.specs.Check.{verdict, Saying, yes, no, neither, meaning}
-use Rattle.verdict.specs.declared.Verdict.{Verdict}
+use Rattle.answer.specs.declared.Refusal.{Refusal}
+use Rattle.verdict.specs.Check.{verdict, Verdict, verdict_of, Saying, yes, no, neither, meaning}
 use Rattle.tables.specs.Counts.{room_for}
 use Rattle.text.specs.Places as places
 use Rattle.statement_text.specs.Statement.{statement_of}
@@ -43,6 +43,10 @@ value_of neither = 0
 -- one word for a check's answer
 abbrev pub verdict_word : Verdict → ℕ
 verdict_word said = word (meaning said).number (value_of (meaning said).says)
+
+-- .. of what the check found
+abbrev pub checked_word : Result Bool Refusal → ℕ
+checked_word r = verdict_word (verdict_of r)
 
 -- What `noketualo_check` answers.
 unfoldable pub host_verdict : ℕ → List ℕ → List ℕ → ℕ

@@ -3,14 +3,15 @@
 // in the bits above. A refusal writes no byte. The calls keep nothing between them.
 #![tactic(auto)]
 
-ghost use Rattle.std.specs.Prelude.{◌≡◌, ◌/◌, ◌≤◌, min, length};
+ghost use Rattle.std.specs.Prelude.{◌≡◌, ◌/◌, ◌≤◌, length};
+ghost use Rattle.answer.specs.Results.{result_number};
 ghost use Rattle.division.specs.Limits.{most_weights};
 ghost use Rattle.words.specs.Words.{word_bytes, WholeWords};
-ghost use Rattle.host.specs.Calls.{HostDivided, host_verdict, HostStated};
+ghost use Rattle.host.specs.Calls.{HostDivided, host_verdict, HostStated, checked_word};
+ghost use Rattle.host.specs.Steps.{Counted};
 
-use answer::{ACCEPTED, COUNT};
+use answer::Refusal;
 use division::limits::MOST_WEIGHTS;
-use verdict::Verdict;
 
 // A value is taken times this, so that it stands above the low byte.
 const ABOVE: u64 = 256;
@@ -20,14 +21,18 @@ const YES: u64 = ABOVE;
 
 const NO: u64 = 0;
 
-// A number of words, or the most weights that a call takes.
-fn at_most(count: usize) -> usize
-    ensures { result ≡ min count most_weights }
+// How many weights there are. COUNT where a byte length is no multiple of eight, and for more weights than a call takes.
+fn count_words(weights: &[u8], others: &[u8]) -> Result<usize, Refusal>
+    ensures { Counted weights.now others.now result }
 {
-    if count <= MOST_WEIGHTS {
-        return count;
+    if words::is_uneven(weights.len(), others.len()) {
+        return Err(Refusal::Count);
     }
-    MOST_WEIGHTS
+    let count = weights.len() / words::WORD;
+    if MOST_WEIGHTS < count {
+        return Err(Refusal::Count);
+    }
+    Ok(count)
 }
 
 // Divides in lent working words: the weights' numbers go to the first, the shares to the second, and from there to `amounts`.
@@ -37,45 +42,42 @@ fn divide_words(
     amounts: &mut [u8],
     numbers: &mut [u64],
     shares: &mut [u64],
-) -> u64
+) -> Result<(), Refusal>
     requires whole_words { WholeWords weights.now amounts.old }
     requires working_words { (length weights.now / word_bytes ≤ most_weights) × (length numbers.old ≡ most_weights) × (length shares.old ≡ most_weights) }
-    ensures { HostDivided pot weights.now amounts.old amounts.new result }
+    ensures { HostDivided pot weights.now amounts.old amounts.new (result_number result) }
 {
     let count = weights.len() / words::WORD;
     words::load(weights, numbers);
-    let room = at_most(amounts.len() / words::WORD);
-    let division = division::divide(pot, &numbers[..count], &mut shares[..room]);
-    let answer = division.answer;
-    let number = answer.number;
-    if number != ACCEPTED {
-        return number;
-    }
+    let room = (amounts.len() / words::WORD).min(MOST_WEIGHTS);
+    division::divide(pot, &numbers[..count], &mut shares[..room])?;
     words::store(&shares[..count], amounts);
-    ACCEPTED
+    Ok(())
 }
 
-// Checks in lent working words: the weights' numbers go to the first, the amounts' to the second.
-fn check_words(
-    pot: u64,
-    weights: &[u8],
-    amounts: &[u8],
-    numbers: &mut [u64],
-    handed: &mut [u64],
-) -> u64
-    requires whole_words { WholeWords weights.now amounts.now × (length amounts.now ≡ length weights.now) }
-    requires working_words { (length weights.now / word_bytes ≤ most_weights) × (length numbers.old ≡ most_weights) × (length handed.old ≡ most_weights) }
-    ensures { result ≡ host_verdict pot weights.now amounts.now }
+// Divides a pot by weights and writes the shares over the first bytes of `amounts`.
+fn divide(pot: u64, weights: &[u8], amounts: &mut [u8]) -> Result<(), Refusal>
+    ensures { HostDivided pot weights.now amounts.old amounts.new (result_number result) }
 {
-    let count = weights.len() / words::WORD;
-    words::load(weights, numbers);
-    words::load(amounts, handed);
-    let verdict = verdict::check(pot, &numbers[..count], &handed[..count]);
-    match verdict {
-        Verdict::Yes => YES,
-        Verdict::No => NO,
-        Verdict::Refused(number) => number,
+    count_words(weights, amounts)?;
+    let mut numbers = [0u64; MOST_WEIGHTS];
+    let mut shares = [0u64; MOST_WEIGHTS];
+    divide_words(pot, weights, amounts, &mut numbers, &mut shares)
+}
+
+// Says whether the amounts are a closest division of the pot by the weights.
+fn check(pot: u64, weights: &[u8], amounts: &[u8]) -> Result<bool, Refusal>
+    ensures { checked_word result ≡ host_verdict pot weights.now amounts.now }
+{
+    let count = count_words(weights, amounts)?;
+    if amounts.len() != weights.len() {
+        return Err(Refusal::Count);
     }
+    let mut numbers = [0u64; MOST_WEIGHTS];
+    let mut handed = [0u64; MOST_WEIGHTS];
+    words::load(weights, &mut numbers);
+    words::load(amounts, &mut handed);
+    verdict::check(pot, &numbers[..count], &handed[..count])
 }
 
 // Divides a pot by weights and writes the shares over the first bytes of `amounts`. Refuses with COUNT (a byte length that
@@ -84,15 +86,10 @@ fn check_words(
 pub extern "C" fn noketualo_divide(pot: u64, weights: &[u8], amounts: &mut [u8]) -> u64
     ensures { HostDivided pot weights.now amounts.old amounts.new result }
 {
-    if words::is_uneven(weights.len(), amounts.len()) {
-        return COUNT;
+    match divide(pot, weights, amounts) {
+        Ok(()) => 0,
+        Err(refusal) => refusal.number(),
     }
-    if MOST_WEIGHTS < weights.len() / words::WORD {
-        return COUNT;
-    }
-    let mut numbers = [0u64; 64];
-    let mut shares = [0u64; 64];
-    divide_words(pot, weights, amounts, &mut numbers, &mut shares)
 }
 
 // Says whether the amounts are a closest division of the pot by the weights. Refuses with COUNT (a byte length that is no
@@ -101,18 +98,11 @@ pub extern "C" fn noketualo_divide(pot: u64, weights: &[u8], amounts: &mut [u8])
 pub extern "C" fn noketualo_check(pot: u64, weights: &[u8], amounts: &[u8]) -> u64
     ensures { result ≡ host_verdict pot weights.now amounts.now }
 {
-    if words::is_uneven(weights.len(), amounts.len()) {
-        return COUNT;
+    match check(pot, weights, amounts) {
+        Ok(true) => YES,
+        Ok(false) => NO,
+        Err(refusal) => refusal.number(),
     }
-    if MOST_WEIGHTS < weights.len() / words::WORD {
-        return COUNT;
-    }
-    if amounts.len() != weights.len() {
-        return COUNT;
-    }
-    let mut numbers = [0u64; 64];
-    let mut handed = [0u64; 64];
-    check_words(pot, weights, amounts, &mut numbers, &mut handed)
 }
 
 // Writes the statement of a month file to the front of `out`, and answers its length in the bits above the low byte. Refuses with
@@ -121,8 +111,8 @@ pub extern "C" fn noketualo_check(pot: u64, weights: &[u8], amounts: &[u8]) -> u
 pub extern "C" fn noketualo_statement(text: &[u8], out: &mut [u8]) -> u64
     ensures { HostStated text.now out.old out.new result }
 {
-    let shown = statement_text::statement(text, out);
-    let answer = shown.answer;
-    let length = shown.length as u64;
-    answer.number + ABOVE * length
+    match statement_text::statement(text, out) {
+        Ok(length) => ABOVE * length as u64,
+        Err(refused) => refused.refusal.number(),
+    }
 }

@@ -8,8 +8,7 @@ use borrow.Author.Tests.{eq-eqb, ne_eqb}
 use Rattle.answer.specs.declared.Answer.{Answer}
 use Rattle.answer.proofs.Turns.{zero_or_not}
 use Rattle.month.specs.declared.Month.{Month}
-use Rattle.judgement.specs.declared.Judged.TheVariants.{Good, Refused}
-use Rattle.judgement.specs.Judgement.{good_or}
+use Rattle.judgement.specs.Judgement.{Good, Refused, good_or}
 
 pub good_given : (month : Month) (a : Answer) → a.number ≡ 0 → good_or month a ≡ Good month
 unfolding good_or

@@ -16,7 +16,7 @@ use Rattle.tables.specs.declared.Table.TheVariants.{Zones, Accounts, Firm}
 use Rattle.tables.specs.Shape.{rows, Tables, words_of}
 use Rattle.tables.specs.Columns.{account_zone, firm_account, firm_term, firm_miso, firm_day}
 use Rattle.judgement.specs.Judgement.{judged, month_in, good_or, judged_as, judged_answer}
-use Rattle.judgement.specs.declared.Judged.TheVariants as outcome
+use Rattle.judgement.specs.Judgement as outcome
 use Rattle.judgement.specs.Good.{Above, Known, Linked, GoodRow, GoodTable, HeadInRange, Roomy, GoodFrame, GoodMonth}
 use Rattle.tables.specs.Counts.{GoodCount}
 use Rattle.judgement.specs.Refused.{Refused}

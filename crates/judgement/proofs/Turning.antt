@@ -1,39 +1,35 @@
--- The judgement as the code takes it, each look behind the answer so far.
+-- The judgement as the code takes it: each look behind those that found nothing, and the first refusal is what comes of it.
 -- Assumes nothing.
-use mathlib.Core.Path.{◌≡◌, sym, ap, ap₂, ◌∙◌}
+use mathlib.Core.Path.{◌≡◌, refl, sym, ap, ◌∙◌}
 use mathlib.Core.Logic.{◌⊎◌, inl, inr, ⊎_elim, ◌≢◌}
-use mathlib.Core.Bool.{true, false}
-use mathlib.Core.List.{List}
-use Prim.Native.Nat.{ℕ, ◌+◌, ◌*◌, ◌/◌, ◌≤◌, ◌<◌}
+use mathlib.Core.Bool.{false, not}
+use Prim.Native.Nat.{ℕ, ◌*◌, ◌/◌, ◌≤◌, ◌<◌}
 use native.Mathlib.Nat.{div-lt_iff_lt-mul}
 use native.Mathlib.Omega.{arith}
 use lib.Dec.{ltb}
 use borrow.Author.Tests.{lt-ltb, le-ltb}
+use Rattle.std.specs.Prelude.{Result, Ok, Err, Option, Some, None}
+use Rattle.std.specs.Option.{ok_or}
+use Rattle.std.specs.Result.{IsErrAnd}
+use Rattle.std.proofs.lemmas.Result.{err_from_is_err_and}
 use Rattle.lists.proofs.Ranks.{lt_or_le}
 use Rattle.answer.specs.declared.Answer.{Answer}
+use Rattle.answer.specs.declared.Refused as refused
 use Rattle.answer.specs.Numbers.{MONTH, CHARGES, CREDITS}
 use Rattle.answer.specs.Numbers as numbers
-use Rattle.answer.specs.Turns.{accepted, refuse, ◌then◌, first}
-use Rattle.answer.proofs.Turns.{then_first, then_second, then_none, refuse_number}
+use Rattle.answer.specs.Results.{refused_answer, result_answer, Answers}
+use Rattle.answer.specs.Turns.{accepted, refusal, ◌then◌}
+use Rattle.answer.proofs.Results.{refused_some}
+use Rattle.answer.proofs.Turns.{then_first, then_second, then_on, then_stays, refuse_some, zero_or_not}
 use Rattle.month.specs.declared.Month.{Month}
-use Rattle.month.specs.declared.Made.TheVariants as calendar
-use Rattle.month.specs.Months.{made_of}
+use Rattle.month.specs.Months.{is_month, made_of}
 use Rattle.month.proofs.Months.{made_good, made_bad}
 use Rattle.tables.specs.declared.Head.{Head}
-use Rattle.tables.specs.declared.Table.{Table}
 use Rattle.tables.specs.declared.Table.TheVariants.{Owners, Accounts}
-use Rattle.tables.specs.Shape.{number, charge_width, credit_width, rows, Tables, words_of}
+use Rattle.tables.specs.Shape.{charge_width, credit_width, rows, Tables}
 use Rattle.tables.specs.Counts.{counts_in_turn, room_for, tables_in_turn}
-use Rattle.rows.specs.Rows.{row_of}
-use Rattle.judgement.specs.declared.Judged.{Judged}
-use Rattle.judgement.specs.declared.Judged.TheVariants.{Refused}
-use Rattle.judgement.specs.Judgement.{head_looked, rows_judged, judged, month_in, good_or, judged_as}
-use Rattle.judgement.proofs.Outcomes.{refused_given}
-use Rattle.judgement.proofs.Refusals.{first_start, first_more, first_stop, first_end}
-
--- the tables in turn behind an answer that accepts
-pub behind_accepted : (before a behind : Answer) → before.number ≡ 0 → a ≡ behind → a ≡ (before then behind)
-behind_accepted before a behind fine e = e ∙ sym (then_second before behind fine)
+use Rattle.judgement.specs.Judgement.{head_looked, head_judged, rows_judged, judged, month_in, good_or, judged_from, Judges}
+use Rattle.judgement.proofs.Outcomes.{good_given, refused_given}
 
 -- there are places for fewer rows than there are exactly where there are fewer places than figures
 pub places : (lent width count : ℕ) → 0 < width → ltb (lent / width) count ≡ ltb lent (count * width)
@@ -49,70 +45,104 @@ places lent width count h =
     fewer l (inl m) = absurd (omega (arith, (div-lt_iff_lt-mul h).1 m))
     fewer l (inr m) = m
 
--- a refusal stays, whatever stands behind it
-pub refusal_stays : (before behind : Answer) → before.number ≢ 0 → before ≡ (before then behind)
-refusal_stays before behind d = sym (then_first before behind d)
+-- a look behind two is one behind the second of them, behind the first
+then_then : (a b c : Answer) → ((a then b) then c) ≡ (a then (b then c))
+then_then a b c =
+    ⊎_elim
+    (λ (z : a.number ≡ 0). ap (λ k. k then c) (then_second a b z) ∙ sym (then_second a (b then c) z))
+    (λ (d : a.number ≢ 0). then_stays {a = a then b} d c (then_first a b d) ∙ sym (then_first a (b then c) d))
+    (zero_or_not a.number)
 
--- the loop over the n rows of a table: those before row i are fine
-pub record RowsPassed (days : ℕ) (t : Tables) (table : Table) (n i : ℕ) : Type 0 where
-  pub all : n ≡ rows table (words_of t table)
-  pub within : i ≤ n
-  pub fine : first (number table) (row_of days t table) i ≡ accepted
+-- of two looks the refusal of the first is passed up, or of the second behind it, or there is none
+module _ {A : Type 0} (r : Result A refused.Refused) (e : refused.Refused) (up : IsErrAnd r (λ x. x ≡ e)) where
+  passed_up : result_answer r ≡ refused_answer e
+  passed_up = let told = err_from_is_err_and r up in ap result_answer told.1 ∙ ap refused_answer told.2
 
-pub rows_start : (days : ℕ) (t : Tables) (table : Table) (words : List ℕ) (n : ℕ) → words ≡ words_of t table → n ≡ rows table words → RowsPassed days t table n 0
-rows_start days t table words n w e =
-    record { all = e ∙ ap (rows table) w; within = omega arith; fine = first_start (number table) (row_of days t table) }
+  pub first_refused : (a b : Answer) → refused_answer e ≡ a → Answers r (a then b)
+  first_refused a b its = passed_up ∙ sym (then_stays (refused_some e) b (sym its))
 
-module _ {days : ℕ} {t : Tables} {table : Table} {n i : ℕ} (passed : RowsPassed days t table n i) where
-  pub is_row : i < n → i < rows table (words_of t table)
-  is_row h = omega (arith, passed.all)
+  pub second_refused : (a b : Answer) → accepted ≡ a → refused_answer e ≡ b → Answers r (a then b)
+  second_refused a b fine its = passed_up ∙ sym (then_on (sym fine) (sym its))
 
-  pub rows_more : (found : ℕ) → i < n → found ≡ row_of days t table i → found ≡ 0 → RowsPassed days t table n (i + 1)
-  rows_more found h e z = record {
-    all = passed.all;
-    within = omega arith;
-    fine = first_more (number table) (row_of days t table) i passed.fine (sym e ∙ z);
-  }
+pub none_refused : (a b : Answer) → accepted ≡ a → accepted ≡ b → accepted ≡ (a then b)
+none_refused a b fine its = sym (then_on (sym fine) (sym its))
 
-  -- behind an answer that refuses nothing, the first row that is not fine is refused, and where every row is fine nothing is
-  module _ (before : Answer) (unrefused : before.number ≡ 0) where
-    pub rows_stop : (found at : ℕ) (r : Answer) → i < n → found ≡ row_of days t table i → found ≢ 0 → at ≡ number table → r ≡ refuse found at i
-        → r ≡ (before then rows_judged days t table)
-    unfolding rows_judged
-    rows_stop found at r h e bad k q =
-        q
-        ∙ ap₂ (λ m a. refuse m a i) e k
-        ∙ sym (first_stop (number table) (row_of days t table) _ i (is_row h) passed.fine (λ z. bad (e ∙ z)))
-        ∙ sym (then_second before _ unrefused)
+-- a month that was looked up: there is one, or none
+month_found : (o : Option Month) (e : refused.Refused) (m : Month) → Ok m ≡ ok_or o e → o ≡ Some m
+month_found None e m h = let never : ◌≡◌ {A = ℕ} 0 1 = cc in absurd (omega arith)
+month_found (Some x) e m h = let same : m ≡ x = cc in ap Some (sym same)
 
-    pub rows_end : n ≤ i → accepted ≡ (before then rows_judged days t table)
-    unfolding rows_judged
-    rows_end h =
-        let most : i ≤ rows table (words_of t table) = omega (arith, passed.all, passed.within) in
-        let least : rows table (words_of t table) ≤ i = omega (arith, passed.all) in
-        sym (first_end (number table) (row_of days t table) _ i most least passed.fine) ∙ sym (then_second before _ unrefused)
+month_missing : (o : Option Month) (e r : refused.Refused) → Err r ≡ ok_or o e → (o ≡ None) × (r ≡ e)
+month_missing None e r h = (refl, cc)
+month_missing (Some x) e r h = let never : ◌≡◌ {A = ℕ} 0 1 = cc in absurd (omega arith)
 
--- where there is no month, MONTH is refused
-no_month : (head : Head) → (head_looked true head).number ≢ 0
-unfolding head_looked
-no_month head z = omega (arith, refuse_number MONTH numbers.HEAD 0)
+module _ (head : Head) (t : Tables) (lent_charges lent_credits : ℕ) where
+  -- ROOM of both outputs
+  abbrev room : Answer
+  room = room_for CHARGES (rows Accounts t.accounts * charge_width) lent_charges then room_for CREDITS (rows Owners t.owners * credit_width) lent_credits
 
-module _ (head : Head) (t : Tables) (lent_charges lent_credits : ℕ) (counts room : Answer) (counted : counts ≡ counts_in_turn t)
-    (roomy : room ≡ (counts then room_for CHARGES (rows Accounts t.accounts * charge_width) lent_charges then room_for CREDITS (rows Owners t.owners * credit_width) lent_credits)) where
-  -- where there is a month, the tables come behind the head ..
-  pub month_made : (month : Month) (frame a : Answer) (r : Judged) → made_of head.month head.days ≡ calendar.Good month → frame ≡ (room then head_looked false head)
-      → a ≡ (frame then tables_in_turn (rows_judged month.days t)) → r ≡ good_or month a → r ≡ judged_as head t lent_charges lent_credits
+  abbrev all_rows : Answer
+  all_rows = tables_in_turn (rows_judged head.days t)
+
+  in_stages : judged head t lent_charges lent_credits ≡ (counts_in_turn t then room then head_judged head then all_rows)
   unfolding judged
-  month_made month frame a r made h e g =
-      let its = made_good head.month head.days month made in
-      g ∙ ap₂ good_or its.1 (e ∙ rw (h, roomy, counted, its.1, its.0))
+  in_stages = ap (λ k. k then head_judged head then all_rows) (then_then (counts_in_turn t) (room_for CHARGES (rows Accounts t.accounts * charge_width) lent_charges) (room_for CREDITS (rows Owners t.owners * credit_width) lent_credits))
 
-  -- .. and where there is none, MONTH or a refusal before it is the answer
-  pub none_made : (a : Answer) (r : Judged) → made_of head.month head.days ≡ calendar.Bad → a ≡ (room then head_looked true head) → r ≡ Refused a
-      → r ≡ judged_as head t lent_charges lent_credits
-  unfolding judged
-  none_made a r made h g =
-      let bad : a.number ≢ 0 = λ z. no_month head (then_none room (head_looked true head) (ap (λ (b : Answer). b.number) (sym h) ∙ z)).1 in
-      g
-      ∙ sym (refused_given (month_in head) a bad)
-      ∙ ap (good_or (month_in head)) (refusal_stays a (tables_in_turn (rows_judged head.days t)) bad ∙ rw (h, roomy, counted, made_bad head.month head.days made))
+  -- a refusal of the judgement is what comes of it
+  module _ (r : Result Month refused.Refused) (e : refused.Refused) (up : IsErrAnd r (λ x. x ≡ e)) where
+    refused_by : judged head t lent_charges lent_credits ≡ refused_answer e → Judges head t lent_charges lent_credits r
+    refused_by its =
+        let told = err_from_is_err_and r up in
+        ap judged_from told.1
+        ∙ ap (λ k. judged_from (Err k)) told.2
+        ∙ sym (ap (good_or (month_in head)) its ∙ refused_given (month_in head) (refused_answer e) (refused_some e))
+
+    pub count_refused : refused_answer e ≡ counts_in_turn t → Judges head t lent_charges lent_credits r
+    count_refused its =
+        let d = refused_some e in
+        refused_by (in_stages ∙ then_stays d all_rows (then_stays d (head_judged head) (then_stays d room (sym its))))
+
+    module _ (counted : accepted ≡ counts_in_turn t) where
+      pub room_refused : refused_answer e ≡ room → Judges head t lent_charges lent_credits r
+      room_refused its =
+          let d = refused_some e in
+          refused_by (in_stages ∙ then_stays d all_rows (then_stays d (head_judged head) (then_on (sym counted) (sym its))))
+
+      module _ (roomy : accepted ≡ room) where
+        head_refused : head_judged head ≡ refused_answer e → Judges head t lent_charges lent_credits r
+        head_refused its =
+            refused_by (in_stages ∙ then_stays (refused_some e) all_rows (then_on (then_on (sym counted) (sym roomy)) its))
+
+        -- where there is no month, MONTH is refused ..
+        pub month_refused : (o : Option Month) (f : refused.Refused) → o ≡ made_of head.month head.days → Err e ≡ ok_or o f → refused_answer f ≡ refusal MONTH numbers.HEAD 0 → Judges head t lent_charges lent_credits r
+        unfolding head_looked
+        month_refused o f made found its =
+            let told = month_missing o f e found in
+            let none : is_month head.month head.days ≡ false = made_bad head.month head.days (sym made ∙ told.0) in
+            head_refused (rw none (refuse_some MONTH numbers.HEAD 0 (omega arith)) ∙ sym its ∙ sym (ap refused_answer told.1))
+
+        -- .. and where there is one, what is looked at behind it
+        module _ (month : Month) (o : Option Month) (f : refused.Refused) (made : o ≡ made_of head.month head.days) (found : Ok month ≡ ok_or o f) where
+          pub range_refused : refused_answer e ≡ head_looked false head → Judges head t lent_charges lent_credits r
+          range_refused its =
+              let known = (made_good head.month head.days month (sym made ∙ month_found o f month found)).0 in
+              head_refused (ap (λ b. head_looked (not b) head) known ∙ sym its)
+
+          pub rows_refused : accepted ≡ head_looked false head → refused_answer e ≡ tables_in_turn (rows_judged month.days t) → Judges head t lent_charges lent_credits r
+          rows_refused fine its =
+              let known = made_good head.month head.days month (sym made ∙ month_found o f month found) in
+              refused_by
+              (in_stages
+              ∙ then_on (then_on (then_on (sym counted) (sym roomy)) (ap (λ b. head_looked (not b) head) known.0 ∙ sym fine))
+              (sym (its ∙ ap (λ m. tables_in_turn (rows_judged m.days t)) known.1)))
+
+  -- where nothing is refused, the month is
+  pub all_fine : (month : Month) (o : Option Month) (f : refused.Refused) → accepted ≡ counts_in_turn t → accepted ≡ room → o ≡ made_of head.month head.days → Ok month ≡ ok_or o f
+      → accepted ≡ head_looked false head → accepted ≡ tables_in_turn (rows_judged month.days t) → Judges head t lent_charges lent_credits (Ok month)
+  all_fine month o f counted roomy made found fine rowed =
+      let known = made_good head.month head.days month (sym made ∙ month_found o f month found) in
+      let all : judged head t lent_charges lent_credits ≡ accepted =
+      in_stages
+      ∙ then_on (then_on (then_on (sym counted) (sym roomy)) (ap (λ b. head_looked (not b) head) known.0 ∙ sym fine))
+      (sym (rowed ∙ ap (λ m. tables_in_turn (rows_judged m.days t)) known.1)) in
+      ap judged_from (ap Ok known.1) ∙ sym (good_given (month_in head) (judged head t lent_charges lent_credits) (ap (λ (a : Answer). a.number) all))

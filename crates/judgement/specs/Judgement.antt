@@ -1,10 +1,12 @@
 -- What a settlement looks at before its divisions, in turn, and what comes of it.
 -- Assumes nothing.
-use Rattle.std.specs.Prelude.{ℕ, ◌*◌, Bool, cond, not, ◌||◌, eqb}
+use Rattle.std.specs.Prelude.{◌≡◌, ℕ, ◌*◌, Bool, cond, not, ◌||◌, eqb, Result, Ok, Err}
 use Rattle.answer.specs.declared.Answer.{Answer}
+use Rattle.answer.specs.declared.Refused as refused
 use Rattle.answer.specs.Numbers.{MONTH, RANGE, CHARGES, CREDITS}
 use Rattle.answer.specs.Numbers as numbers
 use Rattle.answer.specs.Turns.{look, accepted, refuse, ◌then◌, first}
+use Rattle.answer.specs.Results.{refused_answer}
 use Rattle.month.specs.declared.Month.{Month}
 use Rattle.month.specs.Limits.{most_rate, last_weekday}
 use Rattle.month.specs.Months.{is_month}
@@ -14,8 +16,6 @@ use Rattle.tables.specs.declared.Table.TheVariants.{Owners, Accounts}
 use Rattle.tables.specs.Shape.{number, rows, charge_width, credit_width, Tables, words_of}
 use Rattle.tables.specs.Counts.{tables_in_turn, counts_in_turn, room_for}
 use Rattle.rows.specs.Rows.{outside, row_of}
-use Rattle.judgement.specs.declared.Judged.{Judged}
-use Rattle.judgement.specs.declared.Judged.TheVariants.{Good, Refused}
 
 -- RANGE of a head: the non-zone rate; then "a rate for each term, 0..10^8 cents per MW, and the weekday of day 1, 1..7 from Monday"
 unfoldable pub head_outside : Head → Bool
@@ -53,6 +53,11 @@ judged head t lent_charges lent_credits =
 abbrev pub month_in : Head → Month
 month_in head = record { number = head.month; days = head.days }
 
+-- what comes of a month's input: its month, or the first refusal
+pub data Judged : Type 0 where
+  Good : Month → Judged
+  Refused : Answer → Judged
+
 -- a month where an answer accepts, and the answer where it refuses
 unfoldable pub good_or : Month → Answer → Judged
 good_or month a = cond (eqb a.number 0) (Good month) (Refused a)
@@ -65,3 +70,12 @@ judged_as head t lent_charges lent_credits = good_or (month_in head) (judged hea
 abbrev pub judged_answer : Judged → Answer
 judged_answer (Good month) = accepted
 judged_answer (Refused a) = a
+
+-- .. of a result
+abbrev pub judged_from : Result Month refused.Refused → Judged
+judged_from (Ok month) = Good month
+judged_from (Err r) = Refused (refused_answer r)
+
+-- a month's input has this result
+abbrev pub Judges : Head → Tables → ℕ → ℕ → Result Month refused.Refused → Type 0
+Judges head t lent_charges lent_credits r = judged_from r ≡ judged_as head t lent_charges lent_credits

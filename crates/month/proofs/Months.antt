@@ -10,28 +10,28 @@ use native.Mathlib.Numerals.{add-one}
 use native.Mathlib.Omega.{arith}
 use lib.Dec.{leb, eqb}
 use borrow.Author.Tests.{leb-true, eqb-true}
+use Rattle.std.specs.Prelude.{Some, None}
 use Rattle.lists.specs.Sums.{sum_to, at, every}
 use Rattle.lists.proofs.Sums.{every_at, either}
 use Rattle.month.specs.declared.Month.{Month}
-use Rattle.month.specs.declared.Made.TheVariants.{Good, Bad}
 use Rattle.month.specs.Quantities.{most_days}
 use Rattle.month.specs.Months.{months, lengths, february, leap_length, is_length, is_month, made_of, through, twelfth}
 
-picked : (t : Bool) (a m : Month) → cond t (Good a) Bad ≡ Good m → (t ≡ true) × (m ≡ a)
+picked : (t : Bool) (a m : Month) → cond t (Some a) None ≡ Some m → (t ≡ true) × (m ≡ a)
 picked true a m e = (refl, cc)
 picked false a m e = let z : ◌≡◌ {A = ℕ} 0 1 = cc in absurd (omega arith)
 
 -- a month that was made is the one asked for, and one of the calendar
-pub made_good : (month days : ℕ) (m : Month) → made_of month days ≡ Good m → (is_month month days ≡ true) × (m ≡ record { number = month; days = days })
+pub made_good : (month days : ℕ) (m : Month) → made_of month days ≡ Some m → (is_month month days ≡ true) × (m ≡ record { number = month; days = days })
 unfolding made_of
 made_good month days m e = picked (is_month month days) (record { number = month; days = days }) m e
 
-not_picked : (t : Bool) (a : Month) → cond t (Good a) Bad ≡ Bad → t ≡ false
+not_picked : (t : Bool) (a : Month) → cond t (Some a) None ≡ None → t ≡ false
 not_picked true a e = let z : ◌≡◌ {A = ℕ} 0 1 = cc in absurd (omega arith)
 not_picked false a e = refl
 
 -- where none was made there is none
-pub made_bad : (month days : ℕ) → made_of month days ≡ Bad → is_month month days ≡ false
+pub made_bad : (month days : ℕ) → made_of month days ≡ None → is_month month days ≡ false
 unfolding made_of
 made_bad month days e = not_picked (is_month month days) (record { number = month; days = days }) e
 

@@ -1,11 +1,9 @@
 -- The month: its number, its length and its twelfth of an annual figure.
 -- Assumes nothing.
-use Rattle.std.specs.Prelude.{ℕ, ◌*◌, ◌/◌, ◌-◌, Bool, cond, ◌&&◌, ◌||◌, List, [], ◌∷◌, eqb, leb}
+use Rattle.std.specs.Prelude.{ℕ, ◌*◌, ◌/◌, ◌-◌, Bool, cond, ◌&&◌, ◌||◌, List, [], ◌∷◌, eqb, leb, Option, Some, None}
 use Rattle.lists.specs.Sums.{at}
 use Rattle.answer.specs.Numbers.{MONTH}
 use Rattle.month.specs.declared.Month.{Month}
-use Rattle.month.specs.declared.Made.{Made}
-use Rattle.month.specs.declared.Made.TheVariants.{Good, Bad}
 
 -- "month 1..12"
 abbrev pub months : ℕ
@@ -32,18 +30,18 @@ unfoldable pub is_month : ℕ → ℕ → Bool
 is_month month days = leb 1 month && leb month months && is_length month days
 
 -- what comes of a number of a month and a number of days
-unfoldable pub made_of : ℕ → ℕ → Made
-made_of month days = cond (is_month month days) (Good (record { number = month; days = days })) Bad
+unfoldable pub made_of : ℕ → ℕ → Option Month
+made_of month days = cond (is_month month days) (Some (record { number = month; days = days })) None
 
 -- the paper's number of what was made: 0, or MONTH
-abbrev pub made_number : Made → ℕ
-made_number (Good m) = 0
-made_number Bad = MONTH
+abbrev pub made_number : Option Month → ℕ
+made_number (Some m) = 0
+made_number None = MONTH
 
 -- the month that was made; none is zeros
-abbrev pub made_month : Made → Month
-made_month (Good m) = m
-made_month Bad = record { number = 0; days = 0 }
+abbrev pub made_month : Option Month → Month
+made_month (Some m) = m
+made_month None = record { number = 0; days = 0 }
 
 -- "the whole part of annual times m over 12": what the months 1, 2, .. m have together
 unfoldable pub through : ℕ → ℕ → ℕ

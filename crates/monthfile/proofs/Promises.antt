@@ -15,8 +15,8 @@ use Rattle.tables.specs.declared.Table.{Table}
 use Rattle.tables.specs.Shape.{place_of, Tables, words_of}
 use Rattle.tables.specs.Counts.{GoodCount}
 use Rattle.text.specs.Numbers.{Below}
-use Rattle.fileread.specs.declared.Reading.{Reading}
-use Rattle.filewrite.specs.declared.Written.{Written}
+use Rattle.fileread.specs.Calls.{Reading}
+use Rattle.filewrite.specs.Calls.{Written}
 use Rattle.fileform.specs.Form.{month_form}
 use Rattle.fileform.specs.Reading.{nth, Contents, got, refused, reading}
 use Rattle.fileform.specs.Writing.{file_text, ContentsFit}

@@ -29,7 +29,7 @@ use Rattle.fileform.proofs.Forms.{kind_at, FileBack, file_back}
 use Rattle.fileform.proofs.Contents.{month_sound, kind_placed, kind_at_lem, table_fits, written_then_read}
 use Rattle.fileform.proofs.Refusals.{AtLimit, reading_refused}
 use Rattle.fileform.proofs.Reasons.{misfit_refused, limit_refused}
-use Rattle.fileread.specs.declared.Reading.{Reading}
+use Rattle.fileread.specs.Calls.{Reading}
 use Rattle.fileread.specs.Calls.{full_size, read_room, read_outcome, read_answer, tables_in, filled, Reads}
 use Rattle.fileread.proofs.Parts.{nothing_filled}
 use Rattle.monthfile.specs.Front.{at_front}

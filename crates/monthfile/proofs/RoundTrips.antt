@@ -27,10 +27,10 @@ use Rattle.fileform.specs.Writing.{file_text, Fits, ContentsFit}
 use Rattle.fileform.proofs.Each.{words_by, order_at, by_places}
 use Rattle.fileform.proofs.Forms.{all_fit_length}
 use Rattle.fileform.proofs.Contents.{table_fits, written_then_read}
-use Rattle.fileread.specs.declared.Reading.{Reading}
+use Rattle.fileread.specs.Calls.{Reading}
 use Rattle.fileread.specs.Calls.{head_read, read_answer, Reads, count_in, words_read, tables_read}
 use Rattle.fileread.proofs.Parts.{at_counts}
-use Rattle.filewrite.specs.declared.Written.{Written}
+use Rattle.filewrite.specs.Calls.{Written}
 use Rattle.filewrite.specs.Calls.{numbers_of, whole_rows, all_rows, contents_of, month_text, Writes}
 use Rattle.monthfile.specs.Front.{at_front}
 use Rattle.monthfile.specs.Refused.{Full}

@@ -18,7 +18,7 @@ use Rattle.tables.proofs.Tests.{reworded, both, equal, at_least}
 use Rattle.tables.proofs.Stages.{Stage, passed, stopped, passed_on, then_stage, look_stage, in_turn_stage, first_broken}
 use Rattle.text.specs.Places.{stored}
 use Rattle.text.proofs.Stores.{stored_none, stored_in_front}
-use Rattle.filewrite.specs.declared.Written.{Written}
+use Rattle.filewrite.specs.Calls.{Written}
 use Rattle.filewrite.specs.Calls.{month_text, write_answer, text_written, Writes}
 use Rattle.filewrite.proofs.Parts.{none_written, all_written}
 use Rattle.monthfile.specs.Front.{at_front}

@@ -10,13 +10,18 @@ use native.Mathlib.Omega.{arith}
 use lib.Dec.{eqb}
 use lib.ListN.{length, take}
 use borrow.Author.Tests.{eq-eqb}
+use Rattle.std.specs.Prelude.{Result, Ok, Err}
+use Rattle.std.specs.Result.{result_and}
 use Rattle.lists.specs.Sums.{at, total}
 use Rattle.lists.specs.Entries.{put}
 use Rattle.lists.proofs.Entries.{length_put, put_eq}
 use Rattle.answer.specs.declared.Answer.{Answer}
+use Rattle.answer.specs.declared.Refused.{Refused}
 use Rattle.answer.specs.Numbers.{DIVISIONS}
 use Rattle.answer.specs.Turns.{refuse, ◌then◌}
-use Rattle.answer.proofs.Turns.{then_none, refuse_number}
+use Rattle.answer.specs.Results.{refused_answer, result_answer}
+use Rattle.answer.proofs.Turns.{accepted_then, then_first, then_none, refuse_number}
+use Rattle.answer.proofs.Results.{refused_some}
 use Rattle.division.specs.Limits.{size_refusal}
 use Rattle.division.specs.Shares.{shares}
 use Rattle.groups.specs.Groups.{Pots, amount_in_all, groups_in_turn, pots_of, Grouped, Together}
@@ -49,6 +54,11 @@ module _ {t : Tables} {network : List ℕ} {zonecount ownercount : ℕ} {pots nu
         few_groups = omega (arith, lists.numbers_front.long, lists.numbers_front.counted, can.few_zones);
         pot_each = sym lists.pots_front.long ∙ lists.numbers_front.long;
       }
+
+-- of two results the first that refuses counts: so it answers
+pub and_answer : {A B : Type 0} → (r : Result A Refused) (s : Result B Refused) → result_answer (result_and r s) ≡ (result_answer r then result_answer s)
+and_answer (Ok x) s = sym (accepted_then (result_answer s))
+and_answer (Err e) s = sym (then_first (refused_answer e) (result_answer s) (refused_some e))
 
 -- what is written or left as it was has the same length
 either_long : (test : Bool) (written before : List ℕ) → length written ≡ length before → length (cond test written before) ≡ length before

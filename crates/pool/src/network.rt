@@ -1,9 +1,10 @@
 // Network credits: each zone's charges among its owners, and zone 0's among all, by requirement.
-ghost use Rattle.std.specs.Prelude.{map};
-ghost use Rattle.tables.specs.Shape.{tables_from};
+ghost use Rattle.answer.specs.Results.{result_answer};
+ghost use Rattle.tables.specs.Shape.{tables_now};
 ghost use Rattle.pool.specs.Divided.{Divisible, CreditColumns, NetworkCredited};
 
-use answer::{Answer, DIVISIONS};
+use answer::{Part, Refused};
+use groups::GroupPots;
 use tables::columns::{ACCOUNT_ZONE, OWNER_REQUIREMENT, OWNER_ZONE, ZONE_NUMBER};
 use tables::{MOST_OWNERS, MOST_ZONES, TABLES, Table};
 
@@ -13,9 +14,14 @@ const CREDITS: usize = 2 * MOST_OWNERS;
 // The network divisions of a column of charges, one for each account, in turn: each zone's pot among its owners, and the non-zone
 // pot among all. Writes each owner's network credit and its non-zone network credit to the first words of two columns of
 // MOST_OWNERS words, lent one behind the other, the second of zeros. A division that is refused leaves its column as it was.
-pub fn credit<'a>(tables: [&'a [u64]; TABLES], network: &[u64], credits: &mut [u64]) -> Answer
-    requires { Divisible (tables_from (map (λ x. x.now) tables)) network.now × CreditColumns credits.old }
-    ensures { NetworkCredited (tables_from (map (λ x. x.now) tables.entry)) network.now credits.old credits.new result }
+#[tactic(auto, using(lists::proofs::Entries::put_long))]
+pub fn credit<'a>(
+    tables: [&'a [u64]; TABLES],
+    network: &[u64],
+    credits: &mut [u64],
+) -> Result<(), Refused>
+    requires { Divisible (tables_now tables) network.now × CreditColumns credits.old }
+    ensures { NetworkCredited (tables_now tables.entry) network.now credits.old credits.new (result_answer result) }
 {
     let zonecount = columns::rows_of(tables, Table::Zones);
     let ownercount = columns::rows_of(tables, Table::Owners);
@@ -34,19 +40,19 @@ pub fn credit<'a>(tables: [&'a [u64]; TABLES], network: &[u64], credits: &mut [u
     );
     columns::copy(tables, Table::Owners, OWNER_REQUIREMENT, &mut requirements);
     columns::copy(tables, Table::Owners, OWNER_ZONE, &mut ownerzones);
-    let zones = groups::each_group(
-        &pots[..zonecount],
-        &numbers[..zonecount],
-        &requirements[..ownercount],
-        &ownerzones[..ownercount],
-        &mut credits[..MOST_OWNERS],
-        0,
-    );
-    let nonzone = columns::sum_in(tables, Table::Accounts, ACCOUNT_ZONE, network, 0);
-    let number = groups::divide_all(
-        nonzone,
+    let lists = GroupPots {
+        pots: &pots[..zonecount],
+        numbers: &numbers[..zonecount],
+        weights: &requirements[..ownercount],
+        groups: &ownerzones[..ownercount],
+    };
+    let zones = groups::each_group(lists, &mut credits[..MOST_OWNERS], 0);
+    let pot = columns::sum_in(tables, Table::Accounts, ACCOUNT_ZONE, network, 0);
+    let divided = groups::divide_all(
+        pot,
         &requirements[..ownercount],
         &mut credits[MOST_OWNERS..CREDITS],
     );
-    answer::in_turn(zones, answer::refused(number, DIVISIONS, zonecount as u64))
+    let nonzone = answer::placed(divided, Part::Divisions, zonecount as u64);
+    zones.and(nonzone)
 }

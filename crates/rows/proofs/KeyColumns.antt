@@ -93,34 +93,38 @@ columns table words i c = entry table c words i
 -- the loop over the key columns: those that it has passed are the same as those of the row before
 pub record KeyPassed (table : Table) (words : List ℕ) (i keys c : ℕ) : Type 0 where
   pub all : keys ≡ key_columns table
-  pub within : c ≤ keys
   pub same : same_to (columns table words (i - 1)) (columns table words i) c ≡ true
 
 pub key_start : (table : Table) (words : List ℕ) (i keys : ℕ) → keys ≡ key_columns table → KeyPassed table words i keys 0
-key_start table words i keys e = record { all = e; within = omega arith; same = same_start (columns table words (i - 1)) (columns table words i) }
+key_start table words i keys e = record { all = e; same = same_start (columns table words (i - 1)) (columns table words i) }
+
+-- of two numbers that differ one is not below the other exactly where that one is below it
+turned : (a b : ℕ) → a ≢ b → ltb b a ≡ not (ltb a b)
+turned a b d =
+    ⊎_elim
+    (λ (l : a < b). rw (lt-ltb a b l, le-ltb b a (omega arith)))
+    (λ (l : b ≤ a). let m : b < a = omega arith in rw (le-ltb a b l, lt-ltb b a m))
+    (lt_or_le a b)
 
 module _ {table : Table} {words : List ℕ} {i keys c : ℕ} (passed : KeyPassed table words i keys c) where
   pub is_column : c < keys → c < width table
   is_column h = key_within table c (omega (arith, passed.all))
 
-  pub key_more : (before here : ℕ) → c < keys → before ≡ entry table c words (i - 1) → here ≡ entry table c words i → before ≡ here
-      → KeyPassed table words i keys (c + 1)
-  key_more before here h p q e =
-      record {
-        all = passed.all;
-        within = omega arith;
-        same = same_more (columns table words (i - 1)) (columns table words i) c passed.same (sym p ∙ e ∙ q);
-      }
+  pub key_more : (before here : ℕ) → before ≡ entry table c words (i - 1) → here ≡ entry table c words i → before ≡ here → KeyPassed table words i keys (c + 1)
+  key_more before here p q e = record { all = passed.all; same = same_more (columns table words (i - 1)) (columns table words i) c passed.same (sym p ∙ e ∙ q) }
 
   pub row_decided : (before here : ℕ) → i ≢ 0 → c < keys → before ≡ entry table c words (i - 1) → here ≡ entry table c words i → before ≢ here
-      → not (ltb before here) ≡ not_above (row_above table words) i
+      → ltb here before ≡ not_above (row_above table words) i
   row_decided before here later h p q d =
-      ap₂ (λ a b. not (ltb a b)) p q
+      turned before here d
+      ∙ ap₂ (λ a b. not (ltb a b)) p q
       ∙ ap not (first_differs (columns table words (i - 1)) (columns table words i) (key_columns table) c (omega (arith, passed.all)) passed.same (λ e. d (p ∙ e ∙ sym q)))
       ∙ later_row (row_above table words) i later
 
-  pub row_again : i ≢ 0 → keys ≤ c → true ≡ not_above (row_above table words) i
-  row_again later h =
-      let end : c ≡ key_columns table = omega (arith, passed.all, passed.within) in
-      ap not (same_key (columns table words (i - 1)) (columns table words i) (key_columns table) (subst (λ n. same_to (columns table words (i - 1)) (columns table words i) n ≡ true) end passed.same))
+  pub row_again : i ≢ 0 → c ≡ keys → true ≡ not_above (row_above table words) i
+  row_again later end =
+      ap not (same_key (columns table words (i - 1)) (columns table words i) (key_columns table) (subst (λ n. same_to (columns table words (i - 1)) (columns table words i) n ≡ true) (end ∙ passed.all) passed.same))
       ∙ later_row (row_above table words) i later
+
+-- what the loop over the key columns comes to
+pub ruleset key_loop = (key_start, is_column, key_more, row_decided, row_again)

@@ -7,6 +7,7 @@ use tables::Table;
 use tables::columns::entry;
 
 // Row `i` of a table is not above the one before. The first key column in which the two differ decides; the same key is not above.
+#[tactic(auto, using(crate::proofs::KeyColumns::key_loop), unfolding(crate::specs::Rows::not_above))]
 pub fn row_not_above(table: Table, words: &[u64], i: usize) -> bool
     requires { i < rows table words.now }
     ensures { result ≡ not_above (row_above table words.now) i }
@@ -15,14 +16,12 @@ pub fn row_not_above(table: Table, words: &[u64], i: usize) -> bool
         return false;
     }
     let keys = tables::key_columns(table);
-    let mut column = 0;
-    while column < keys {
+    for column in 0..keys {
         let before = entry(table, column, words, i - 1);
         let here = entry(table, column, words, i);
         if before != here {
-            return !(before < here);
+            return here < before;
         }
-        column += 1;
     }
     true
 }

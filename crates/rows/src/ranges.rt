@@ -20,15 +20,17 @@ use tables::{
     Table,
 };
 
+#[tactic(auto, unfolding(crate::specs::Rows::zone_outside))]
 fn zone_outside(zones: &[u64], i: usize) -> bool
     requires { i < rows Zones zones.now }
     ensures { result ≡ zone_outside zones.now i }
 {
     let zone = entry(Table::Zones, ZONE_NUMBER, zones, i);
     let rate = entry(Table::Zones, ZONE_RATE, zones, i);
-    outside(1, LAST_ZONE, zone) | outside(0, MOST_RATE, rate)
+    outside(1, LAST_ZONE, zone) || outside(0, MOST_RATE, rate)
 }
 
+#[tactic(auto, unfolding(crate::specs::Rows::owner_outside))]
 fn owner_outside(owners: &[u64], i: usize) -> bool
     requires { i < rows Owners owners.now }
     ensures { result ≡ owner_outside owners.now i }
@@ -36,7 +38,7 @@ fn owner_outside(owners: &[u64], i: usize) -> bool
     let owner = entry(Table::Owners, OWNER_NUMBER, owners, i);
     let zone = entry(Table::Owners, OWNER_ZONE, owners, i);
     let annual = entry(Table::Owners, OWNER_REQUIREMENT, owners, i);
-    outside(1, LAST_OWNER, owner) | outside(1, LAST_ZONE, zone) | outside(0, MOST_ANNUAL, annual)
+    outside(1, LAST_OWNER, owner) || outside(1, LAST_ZONE, zone) || outside(0, MOST_ANNUAL, annual)
 }
 
 // The most that a reserve credit may be, by its unit's service.
@@ -49,6 +51,7 @@ fn reserve_limit(service: u64) -> u64
     MOST_RESERVE
 }
 
+#[tactic(auto, unfolding(crate::specs::Rows::unit_outside))]
 fn unit_outside(units: &[u64], i: usize) -> bool
     requires { i < rows Units units.now }
     ensures { result ≡ unit_outside units.now i }
@@ -60,13 +63,14 @@ fn unit_outside(units: &[u64], i: usize) -> bool
     let annual = entry(Table::Units, UNIT_REQUIREMENT, units, i);
     let reserve = entry(Table::Units, UNIT_RESERVE, units, i);
     outside(1, LAST_UNIT, unit)
-        | outside(1, LAST_OWNER, owner)
-        | outside(1, LAST_ZONE, zone)
-        | outside(BLACK_START, REACTIVE, service)
-        | outside(0, MOST_ANNUAL, annual)
-        | outside(0, reserve_limit(service), reserve)
+        || outside(1, LAST_OWNER, owner)
+        || outside(1, LAST_ZONE, zone)
+        || outside(BLACK_START, REACTIVE, service)
+        || outside(0, MOST_ANNUAL, annual)
+        || outside(0, reserve_limit(service), reserve)
 }
 
+#[tactic(auto, unfolding(crate::specs::Rows::account_outside))]
 fn account_outside(accounts: &[u64], i: usize) -> bool
     requires { i < rows Accounts accounts.now }
     ensures { result ≡ account_outside accounts.now i }
@@ -75,10 +79,11 @@ fn account_outside(accounts: &[u64], i: usize) -> bool
     let customer = entry(Table::Accounts, ACCOUNT_CUSTOMER, accounts, i);
     let zone = entry(Table::Accounts, ACCOUNT_ZONE, accounts, i);
     outside(1, LAST_ACCOUNT, account)
-        | outside(1, LAST_CUSTOMER, customer)
-        | outside(0, LAST_ZONE, zone)
+        || outside(1, LAST_CUSTOMER, customer)
+        || outside(0, LAST_ZONE, zone)
 }
 
+#[tactic(auto, unfolding(crate::specs::Rows::load_outside))]
 fn load_outside(month: Month, loads: &[u64], i: usize) -> bool
     requires { i < rows Loads loads.now }
     ensures { result ≡ load_outside month.days loads.now i }
@@ -87,9 +92,12 @@ fn load_outside(month: Month, loads: &[u64], i: usize) -> bool
     let account = entry(Table::Loads, LOAD_ACCOUNT, loads, i);
     let day = entry(Table::Loads, LOAD_DAY, loads, i);
     let contribution = entry(Table::Loads, LOAD_CONTRIBUTION, loads, i);
-    outside(1, LAST_ACCOUNT, account) | outside(1, days, day) | outside(0, MOST_LOAD, contribution)
+    outside(1, LAST_ACCOUNT, account)
+        || outside(1, days, day)
+        || outside(0, MOST_LOAD, contribution)
 }
 
+#[tactic(auto, unfolding(crate::specs::Rows::reservation_outside))]
 fn reservation_outside(words: &[u64], i: usize) -> bool
     requires { i < rows Reservations words.now }
     ensures { result ≡ reservation_outside words.now i }
@@ -98,9 +106,9 @@ fn reservation_outside(words: &[u64], i: usize) -> bool
     let reserved = entry(Table::Reservations, RESERVATION_RESERVED, words, i);
     let curtailed = entry(Table::Reservations, RESERVATION_CURTAILED, words, i);
     outside(1, LAST_ACCOUNT, account)
-        | outside(0, MOST_ENERGY, reserved)
-        | outside(0, MOST_ENERGY, curtailed)
-        | outside(0, reserved, curtailed)
+        || outside(0, MOST_ENERGY, reserved)
+        || outside(0, MOST_ENERGY, curtailed)
+        || outside(0, reserved, curtailed)
 }
 
 // The last day on which a reservation of a term may begin, in a month of so many days.
@@ -113,6 +121,7 @@ fn last_first_day(term: u64, days: u64) -> u64
     days
 }
 
+#[tactic(auto, unfolding(crate::specs::Rows::firm_outside))]
 fn firm_outside(month: Month, firm: &[u64], i: usize) -> bool
     requires { i < rows Firm firm.now }
     ensures { result ≡ firm_outside month.days firm.now i }
@@ -124,11 +133,11 @@ fn firm_outside(month: Month, firm: &[u64], i: usize) -> bool
     let first = entry(Table::Firm, FIRM_DAY, firm, i);
     let capacity = entry(Table::Firm, FIRM_CAPACITY, firm, i);
     outside(1, LAST_ACCOUNT, account)
-        | outside(DAILY, MONTHLY, term)
-        | outside(0, MISO, miso)
-        | outside(1, days, first)
-        | outside(1, last_first_day(term, days), first)
-        | outside(0, MOST_CAPACITY, capacity)
+        || outside(DAILY, MONTHLY, term)
+        || outside(0, MISO, miso)
+        || outside(1, days, first)
+        || outside(1, last_first_day(term, days), first)
+        || outside(0, MOST_CAPACITY, capacity)
 }
 
 // An entry of row `i` of a table is outside its range, in its month.

@@ -1,32 +1,31 @@
 // LINK and PAIR: each look is true where the row breaks its rule.
-ghost use Rattle.std.specs.Prelude.{◌≡◌, map, ◌<◌};
+ghost use Rattle.std.specs.Prelude.{◌≡◌, ◌<◌};
 ghost use Rattle.tables.specs.declared.Table.TheVariants.{Accounts};
-ghost use Rattle.tables.specs.Shape.{rows, tables_from, words_of};
+ghost use Rattle.tables.specs.Shape.{rows, tables_now, words_of};
 ghost use Rattle.rows.specs.Rows.{unknown, row_unlinked, same_pair, taken, row_taken};
 
 use tables::columns::{ACCOUNT_CUSTOMER, ACCOUNT_ZONE, OWNER_ZONE, UNIT_OWNER, UNIT_ZONE, entry};
 use tables::{TABLES, Table};
 
 // No row of a table has x as its first entry.
+#[tactic(auto, using(crate::proofs::Looks::row_found, crate::proofs::Looks::row_missing), unfolding(lists::specs::Sums::any))]
 fn unknown<'a>(table: Table, tables: [&'a [u64]; TABLES], x: u64) -> bool
-    ensures { result ≡ unknown table (words_of (tables_from (map (λ x. x.now) tables.entry)) table) x }
+    ensures { result ≡ unknown table (words_of (tables_now tables.entry) table) x }
 {
     let words = tables::words_of(tables, table);
     let n = tables::rows_in(table, words.len());
-    let mut j = 0;
-    while j < n {
+    for j in 0..n {
         if entry(table, 0, words, j) == x {
             return false;
         }
-        j += 1;
     }
     true
 }
 
 // A row that an entry of row `i` of a table names does not exist; an account at the border names no zone.
 pub fn row_unlinked<'a>(table: Table, tables: [&'a [u64]; TABLES], i: usize) -> bool
-    requires { i < rows table (words_of (tables_from (map (λ x. x.now) tables)) table) }
-    ensures { result ≡ row_unlinked (tables_from (map (λ x. x.now) tables.entry)) table i }
+    requires { i < rows table (words_of (tables_now tables) table) }
+    ensures { result ≡ row_unlinked (tables_now tables.entry) table i }
 {
     let words = tables::words_of(tables, table);
     match table {
@@ -38,11 +37,11 @@ pub fn row_unlinked<'a>(table: Table, tables: [&'a [u64]; TABLES], i: usize) -> 
         Table::Units => {
             let owner = entry(Table::Units, UNIT_OWNER, words, i);
             let zone = entry(Table::Units, UNIT_ZONE, words, i);
-            unknown(Table::Owners, tables, owner) | unknown(Table::Zones, tables, zone)
+            unknown(Table::Owners, tables, owner) || unknown(Table::Zones, tables, zone)
         }
         Table::Accounts => {
             let zone = entry(Table::Accounts, ACCOUNT_ZONE, words, i);
-            (zone != 0) & unknown(Table::Zones, tables, zone)
+            zone != 0 && unknown(Table::Zones, tables, zone)
         }
         // Their first entry is an account.
         Table::Loads | Table::Reservations | Table::Firm => {
@@ -61,21 +60,19 @@ fn same_pair(accounts: &[u64], j: usize, i: usize) -> bool
         == entry(Table::Accounts, ACCOUNT_CUSTOMER, accounts, i);
     let zone = entry(Table::Accounts, ACCOUNT_ZONE, accounts, j)
         == entry(Table::Accounts, ACCOUNT_ZONE, accounts, i);
-    customer & zone
+    customer && zone
 }
 
 // An earlier account has this one's customer and zone.
+#[tactic(auto, using(crate::proofs::Looks::pair_found, crate::proofs::Looks::pair_missing), unfolding(lists::specs::Sums::any))]
 fn taken(accounts: &[u64], i: usize) -> bool
     requires { i < rows Accounts accounts.now }
     ensures { result ≡ taken accounts.now i }
 {
-    let mut j = 0;
-    while j < i {
-        let next = j + 1;
+    for j in 0..i {
         if same_pair(accounts, j, i) {
             return true;
         }
-        j = next;
     }
     false
 }

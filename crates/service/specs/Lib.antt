@@ -1,3 +1,4 @@
 pub mod Service
 pub mod Turn
+pub mod Lists
 pub mod Steps

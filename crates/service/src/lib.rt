@@ -5,178 +5,104 @@
 #![tactic(auto)]
 
 ghost use Rattle.std.specs.Prelude.{◌≡◌, [], ◌∷◌, ◌+◌, ◌*◌, ◌≤◌, ◌<◌, ◌^◌, length};
-ghost use Rattle.lists.specs.Sums.{at};
-ghost use Rattle.groups.specs.Groups.{among};
+ghost use Rattle.answer.specs.Results.{result_answer};
+ghost use Rattle.groups.specs.Groups.{weights_in};
 ghost use Rattle.groups.specs.Columns.{Addable};
 ghost use Rattle.groups.specs.Steps.{Summed};
-ghost use Rattle.service.specs.Service.{service_of, zone_sides};
-ghost use Rattle.service.specs.Turn.{Served, ServiceTogether};
+ghost use Rattle.service.specs.Lists.{service_in};
+ghost use Rattle.service.specs.Service.{zone_sides};
+ghost use Rattle.service.specs.Turn.{Served};
 ghost use Rattle.service.specs.Steps.{Split, OneZone, AllZones, AllCharged};
 
-use answer::{ACCEPTED, Answer, DIVISIONS};
+use answer::{Part, Refusal, Refused, placed};
 use groups::columns;
+pub use together::ServiceLists;
 
-// The two sides of a zone's pot, where the number is not a refusal's.
+mod together;
+
+// The two sides of a zone's pot.
 #[derive(Drop)]
 struct Sides {
-    number: u64,
     zone: u64,
-    nonzone: u64,
-}
-
-// What charging one zone, or all zones, answers, and the non-zone side or sides of its pot.
-#[derive(Drop)]
-struct ZoneCharged {
-    answer: Answer,
     nonzone: u64,
 }
 
 // A pot in two by two uses, zone side first.
-fn split(pot: u64, zone: u64, nonzone: u64) -> Sides
+fn split(pot: u64, zone: u64, nonzone: u64) -> Result<Sides, Refusal>
     ensures { Split pot (zone ∷ nonzone ∷ []) result }
 {
     let uses = [zone, nonzone];
     let mut sides = [0u64; 2];
-    let division = division::divide(pot, &uses, &mut sides);
-    Sides {
-        number: division.answer.number,
+    division::divide(pot, &uses, &mut sides)?;
+    Ok(Sides {
         zone: sides[0],
         nonzone: sides[1],
-    }
+    })
 }
 
-// One zone: its pot is split by two uses, and its zone side shared among its accounts. The split stands at `place`, the share
-// behind it.
+// Zone `z`: its pot is split by two uses, and its zone side shared among its accounts. The split stands at `place`, the share
+// behind it. Answers the non-zone side.
 fn charge_zone(
-    pot: u64,
+    lists: ServiceLists,
+    z: usize,
     zone: u64,
     nonzone: u64,
-    zoneparts: &[u64],
-    zones: &[u64],
-    number: u64,
     column: &mut [u64],
     place: u64,
-) -> ZoneCharged
-    requires addable { Addable (length zoneparts.now) column.old }
-    requires zones_len { length zones.now ≡ length zoneparts.now }
+) -> Result<u64, Refused>
+    requires addable { Addable (length lists.zoneparts.now) column.old }
+    requires z_in_bounds { z < length lists.numbers.now }
     requires place_bound { place + 1 < 2 ^ 64 }
-    ensures { OneZone pot (zone ∷ nonzone ∷ []) (among (length zoneparts.now) (at zones.now) (at zoneparts.now) number) place column.old column.new result }
+    ensures { OneZone ((service_in lists.entry).pot z) (zone ∷ nonzone ∷ []) (weights_in (zone_sides (service_in lists.entry)) z) place column.old column.new result }
 {
-    let sides = split(pot, zone, nonzone);
-    let refusal = sides.number;
-    if refusal != ACCEPTED {
-        return ZoneCharged {
-            answer: answer::refused(refusal, DIVISIONS, place),
-            nonzone: 0,
-        };
-    }
-    let refusal = groups::divide_among(sides.zone, zoneparts, zones, number, column);
-    ZoneCharged {
-        answer: answer::refused(refusal, DIVISIONS, place + 1),
-        nonzone: sides.nonzone,
-    }
+    let sides = placed(split(lists.pots[z], zone, nonzone), Part::Divisions, place)?;
+    let number = lists.numbers[z];
+    let shared = groups::divide_among(sides.zone, lists.zoneparts, lists.zones, number, column);
+    placed(shared, Part::Divisions, place + 1)?;
+    Ok(sides.nonzone)
 }
 
-// Each zone in turn, charged to a column of zeros, until the first refusal; the non-zone sides are added up.
-fn charge_zones(
-    pots: &[u64],
-    numbers: &[u64],
-    zoneparts: &[u64],
-    nonzoneparts: &[u64],
-    zones: &[u64],
-    column: &mut [u64],
-    place: u64,
-) -> ZoneCharged
-    requires service_together { ServiceTogether pots.now numbers.now zoneparts.now nonzoneparts.now zones.now }
-    requires summed { Summed (zone_sides (service_of pots.now numbers.now zoneparts.now nonzoneparts.now zones.now)) 0 column.old }
-    requires numbers_bound { place + 2 * length numbers.now < 2 ^ 64 }
-    ensures { AllZones (service_of pots.now numbers.now zoneparts.now nonzoneparts.now zones.now) place column.new result }
+// Each zone in turn, charged to a column of zeros, until the first refusal. Answers the non-zone sides, added up.
+fn charge_zones(lists: ServiceLists, column: &mut [u64], place: u64) -> Result<u64, Refused>
+    requires summed { Summed (zone_sides (service_in lists)) 0 column.old }
+    requires numbers_bound { place + 2 * length lists.numbers.now < 2 ^ 64 }
+    ensures { AllZones (service_in lists.entry) place column.new result }
 {
-    let zone = lists::sum_capped(zoneparts, u64::MAX);
-    let nonzone = lists::sum_capped(nonzoneparts, u64::MAX);
+    let zone = lists::sum_capped(lists.zoneparts, u64::MAX);
+    let nonzone = lists::sum_capped(lists.nonzoneparts, u64::MAX);
     let mut sides = 0;
-    let mut z = 0;
-    while z < numbers.len() {
-        let charged = charge_zone(
-            pots[z],
-            zone,
-            nonzone,
-            zoneparts,
-            zones,
-            numbers[z],
-            column,
-            place + 2 * z as u64,
-        );
-        let number = charged.answer.number;
-        if number != ACCEPTED {
-            return charged;
-        }
-        sides += charged.nonzone;
-        z += 1;
+    for z in 0..lists.numbers.len() {
+        sides += charge_zone(lists, z, zone, nonzone, column, place + 2 * z as u64)?;
     }
-    ZoneCharged {
-        answer: answer::refused(ACCEPTED, DIVISIONS, place),
-        nonzone: sides,
-    }
+    Ok(sides)
 }
 
 // The zones and then the non-zone pot, charged to a column of zeros, until the first refusal.
-fn charge_all(
-    pots: &[u64],
-    numbers: &[u64],
-    zoneparts: &[u64],
-    nonzoneparts: &[u64],
-    zones: &[u64],
-    column: &mut [u64],
-    place: u64,
-) -> Answer
-    requires service_together { ServiceTogether pots.now numbers.now zoneparts.now nonzoneparts.now zones.now }
-    requires summed { Summed (zone_sides (service_of pots.now numbers.now zoneparts.now nonzoneparts.now zones.now)) 0 column.old }
-    requires numbers_bound { place + 2 * length numbers.now < 2 ^ 64 }
-    ensures { AllCharged (service_of pots.now numbers.now zoneparts.now nonzoneparts.now zones.now) place column.new result }
+fn charge_all(lists: ServiceLists, column: &mut [u64], place: u64) -> Result<(), Refused>
+    requires summed { Summed (zone_sides (service_in lists)) 0 column.old }
+    requires numbers_bound { place + 2 * length lists.numbers.now < 2 ^ 64 }
+    ensures { AllCharged (service_in lists.entry) place column.new (result_answer result) }
 {
-    let charged = charge_zones(pots, numbers, zoneparts, nonzoneparts, zones, column, place);
-    let number = charged.answer.number;
-    if number != ACCEPTED {
-        return charged.answer;
-    }
-    let refusal = groups::divide_all(charged.nonzone, nonzoneparts, column);
-    answer::refused(refusal, DIVISIONS, place + 2 * numbers.len() as u64)
+    let nonzone = charge_zones(lists, column, place)?;
+    let divided = groups::divide_all(nonzone, lists.nonzoneparts, column);
+    placed(
+        divided,
+        Part::Divisions,
+        place + 2 * lists.numbers.len() as u64,
+    )
 }
 
-// Charges a service's pots to the accounts, and writes each account's charge to the first words of the column. `pots` and
-// `numbers` have the pot and the number of each zone, `zoneparts`, `nonzoneparts` and `zones` the two parts of use and the zone of
-// each account. Refuses with BIG, then BASE, at the first division that is refused; from `place` on stand each zone's split and
-// share, zone by zone, and last the non-zone pot's division. A refusal writes nothing.
-pub fn charge(
-    pots: &[u64],
-    numbers: &[u64],
-    zoneparts: &[u64],
-    nonzoneparts: &[u64],
-    zones: &[u64],
-    column: &mut [u64],
-    place: u64,
-) -> Answer
-    requires service_together { ServiceTogether pots.now numbers.now zoneparts.now nonzoneparts.now zones.now }
-    requires zoneparts_in_bounds { length zoneparts.now ≤ length column.old }
-    requires numbers_bound { place + 2 * length numbers.now < 2 ^ 64 }
-    ensures { Served (service_of pots.now numbers.now zoneparts.now nonzoneparts.now zones.now) place column.old column.new result }
+// Charges a service's pots to the accounts, and writes each account's charge to the first words of the column. Refuses with BIG,
+// then BASE, at the first division that is refused; from `place` on stand each zone's split and share, zone by zone, and last the
+// non-zone pot's division. A refusal writes nothing.
+pub fn charge(lists: ServiceLists, column: &mut [u64], place: u64) -> Result<(), Refused>
+    requires zoneparts_in_bounds { length lists.zoneparts.now ≤ length column.old }
+    requires numbers_bound { place + 2 * length lists.numbers.now < 2 ^ 64 }
+    ensures { Served (service_in lists.entry) place column.old column.new (result_answer result) }
 {
-    let count = zoneparts.len();
+    let count = lists.zoneparts.len();
     let mut charges = [0u64; groups::MOST_MEMBERS];
-    let answer = charge_all(
-        pots,
-        numbers,
-        zoneparts,
-        nonzoneparts,
-        zones,
-        &mut charges,
-        place,
-    );
-    let number = answer.number;
-    if number != ACCEPTED {
-        return answer;
-    }
+    charge_all(lists, &mut charges, place)?;
     columns::store(&charges[..count], column);
-    answer
+    Ok(())
 }

@@ -3,9 +3,7 @@
 use mathlib.Core.Path.{◌≡◌, sym}
 use mathlib.Core.List.{List}
 use Prim.Native.Nat.{ℕ, ◌+◌, ◌*◌, ◌/◌, ◌%◌, ◌<◌}
-use native.Mathlib.Nat.{lt_of_lt_of_le, mod-lt, div-lt_iff_lt-mul}
-use lib.Arith.{digits_lt}
-use lib.ListN.{length}
+use native.Mathlib.Nat.{lt_of_lt_of_le, div-lt_iff_lt-mul}
 use Rattle.lists.specs.Sums.{at}
 use Rattle.columns.proofs.Blocks.{column_word}
 use Rattle.settlement.specs.Settled.{laid}
@@ -14,9 +12,6 @@ use Rattle.settlement.specs.Steps.{word_in, Layable}
 module _ {width stride count : ℕ} {block out : List ℕ} (can : Layable width stride count block out) (k : ℕ) (b : k < count * width) where
   row_within : k / width < stride
   row_within = lt_of_lt_of_le ((div-lt_iff_lt-mul can.some_columns).1 b) can.few_rows
-
-  pub index_within : k % width * stride + k / width < length block
-  index_within = lt_of_lt_of_le (digits_lt (mod-lt k can.some_columns) row_within) can.whole_columns
 
   pub word_laid : at block (k % width * stride + k / width) ≡ laid width (word_in stride block) k
   word_laid = sym (column_word stride (k % width) block (k / width) row_within)

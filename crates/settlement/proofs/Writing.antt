@@ -8,16 +8,17 @@ use Prim.Native.Nat.{ℕ, ◌*◌, ◌/◌, ◌%◌, ◌<◌}
 use native.Mathlib.Nat.{mod-lt, div-lt_iff_lt-mul}
 use native.Mathlib.Omega.{arith}
 use lib.ListN.{length}
-use borrow.Author.Tests.{eq-eqb, ne_eqb}
+use borrow.Author.Tests.{ne_eqb}
 use Rattle.lists.specs.Entries.{put}
 use Rattle.lists.proofs.Entries.{put_eq}
 use Rattle.answer.specs.declared.Answer.{Answer}
+use Rattle.answer.specs.Turns.{accepted}
 use Rattle.answer.proofs.Turns.{then_first, then_second}
 use Rattle.tables.specs.declared.Head.{Head}
 use Rattle.tables.specs.declared.Table.TheVariants.{Owners, Accounts}
 use Rattle.tables.specs.Shape.{limit, charge_width, credit_width, Tables}
 use Rattle.month.specs.declared.Month.{Month}
-use Rattle.judgement.specs.declared.Judged.TheVariants as outcome
+use Rattle.judgement.specs.Judgement as outcome
 use Rattle.judgement.specs.Judgement.{judged, month_in, judged_as}
 use Rattle.judgement.proofs.Judging.{judged_good}
 use Rattle.judgement.proofs.Outcomes.{good_told, refused_told}
@@ -37,31 +38,20 @@ laid_out n width stride figure some block before {found} e hold written =
     ∙ put_eq (n * width) (laid width (word_in stride block)) (laid width figure) before
     (λ k b. (hold (k % width) (mod-lt k some)).words (k / width) ((div-lt_iff_lt-mul some).1 b))
 
--- so what is left in the lent words of a month that can be settled is what the paper says
-module _ (m : Input) {accounts owners charges credits : List ℕ} {r : Answer} (divided : MonthDivided m accounts owners r) where
-  pub settled_refused : r.number ≢ 0 → GoodSettled m charges charges credits credits r
-  settled_refused bad =
-      record {
-        answer = divided.answer;
-        charges_lent = rw (ne_eqb r.number 0 bad);
-        credits_lent = rw (ne_eqb r.number 0 bad);
-      }
-
-  pub settled_accepted : r.number ≡ 0 → {charges_after credits_after : List ℕ} {accountcount ownercount : ℕ} → accountcount ≡ account_count m → ownercount ≡ owner_count m
-      → charges_after ≡ put (accountcount * charge_width) (laid charge_width (word_in (limit Accounts) accounts)) charges
-      → credits_after ≡ put (ownercount * credit_width) (laid credit_width (word_in (limit Owners) owners)) credits
-      → GoodSettled m charges charges_after credits credits_after r
-  unfolding charge_words credit_words
-  settled_accepted fine e f charged credited =
-      record {
-        answer = divided.answer;
-        charges_lent =
-            laid_out (account_count m) charge_width (limit Accounts) (charge_of m) (omega arith) accounts charges e (divided.columns fine).charges charged
-            ∙ (rw (eq-eqb r.number 0 fine));
-        credits_lent =
-            laid_out (owner_count m) credit_width (limit Owners) (credit_of m) (omega arith) owners credits f (divided.columns fine).credits credited
-            ∙ (rw (eq-eqb r.number 0 fine));
-      }
+-- so what is left in the lent words of an accepted month is what the paper says
+pub settled_accepted : (m : Input) {accounts owners charges credits : List ℕ} {r : Answer} → MonthDivided m accounts owners r → r ≡ accepted
+    → {charges_after credits_after : List ℕ} {accountcount ownercount : ℕ} → accountcount ≡ account_count m → ownercount ≡ owner_count m
+    → charges_after ≡ put (accountcount * charge_width) (laid charge_width (word_in (limit Accounts) accounts)) charges
+    → credits_after ≡ put (ownercount * credit_width) (laid credit_width (word_in (limit Owners) owners)) credits
+    → GoodSettled m charges charges_after credits credits_after accepted
+unfolding charge_words credit_words
+settled_accepted m {accounts} {owners} {charges} {credits} divided fine e f charged credited =
+    let held = divided.columns (ap (λ (a : Answer). a.number) fine) in
+    record {
+      answer = sym fine ∙ divided.answer;
+      charges_lent = laid_out (account_count m) charge_width (limit Accounts) (charge_of m) (omega arith) accounts charges e held.charges charged;
+      credits_lent = laid_out (owner_count m) credit_width (limit Owners) (credit_of m) (omega arith) owners credits f held.credits credited;
+    }
 
 -- the whole answer: what the judgement refuses, and what comes of a month that it hands on
 module _ (head : Head) (t : Tables) (charges credits : List ℕ) where

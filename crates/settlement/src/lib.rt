@@ -3,14 +3,14 @@
 // month that is accepted writes to the lent outputs. `specs/` says what is answered and written, `proofs/Promises.antt` what follows from it.
 #![tactic(auto)]
 
-ghost use Rattle.std.specs.Prelude.{map, ◌*◌, ◌≤◌, length};
-ghost use Rattle.tables.specs.Shape.{charge_width, credit_width, tables_from};
+ghost use Rattle.std.specs.Prelude.{◌*◌, ◌≤◌, length};
+ghost use Rattle.answer.specs.Results.{result_answer};
+ghost use Rattle.tables.specs.Shape.{charge_width, credit_width, tables_now};
 ghost use Rattle.pool.specs.Input.{month_of, owner_count, account_count};
 ghost use Rattle.settlement.specs.Settled.{Settled};
 ghost use Rattle.settlement.specs.Steps.{month_with, Settleable, Working, MonthDivided, GoodSettled};
 
-use answer::{ACCEPTED, Answer};
-use judgement::Judged;
+use answer::Refused;
 use month::Month;
 use pool::{accounts, network};
 use tables::{
@@ -47,9 +47,9 @@ fn divide_month<'a>(
     tables: [&'a [u64]; TABLES],
     accounts: &mut [u64],
     owners: &mut [u64],
-) -> Answer
-    requires { Settleable (month_with month head (tables_from (map (λ x. x.now) tables))) × Working accounts.old owners.old }
-    ensures { MonthDivided (month_with month head (tables_from (map (λ x. x.now) tables.entry))) accounts.new owners.new result }
+) -> Result<(), Refused>
+    requires { Settleable (month_with month head (tables_now tables)) × Working accounts.old owners.old }
+    ensures { MonthDivided (month_with month head (tables_now tables.entry)) accounts.new owners.new (result_answer result) }
 {
     let count = columns::rows_of(tables, Table::Zones) as u64;
     let mut networks = [0u64; MOST_ACCOUNTS];
@@ -61,14 +61,14 @@ fn divide_month<'a>(
         &mut networks,
         &mut energies,
     );
-    let first = network::credit(
+    let network = network::credit(
         tables,
         &accounts[..NETWORK_CHARGES_END],
         &mut owners[..NETWORK_CREDITS_END],
     );
     // With k zones the network has k + 1 divisions, so black start's begin at k + 1; it has 2k + 1, so reactive's begin at 3k + 2, and
     // the firm one stands at 5k + 3.
-    let second = services::settle(
+    let black_start = services::settle(
         BLACK_START,
         month,
         tables,
@@ -78,7 +78,7 @@ fn divide_month<'a>(
         &mut owners[NETWORK_CREDITS_END..BLACK_START_CREDITS_END],
         count + 1,
     );
-    let third = services::settle(
+    let reactive = services::settle(
         REACTIVE,
         month,
         tables,
@@ -88,17 +88,15 @@ fn divide_month<'a>(
         &mut owners[BLACK_START_CREDITS_END..REACTIVE_CREDITS_END],
         3 * count + 2,
     );
-    let fourth = firm::settle(
+    let firm = firm::settle(
         head,
         tables,
         &mut accounts[REACTIVE_CHARGES_END..FIRM_CHARGES_END],
         &mut owners[REACTIVE_CREDITS_END..FIRM_CREDITS_END],
         5 * count + 3,
     );
-    answer::in_turn(
-        answer::in_turn(answer::in_turn(first, second), third),
-        fourth,
-    )
+    // All four are made, and the first that is refused, in turn, gives the answer.
+    network.and(black_start).and(reactive).and(firm)
 }
 
 // Settles a good month, with columns of its own.
@@ -108,18 +106,14 @@ fn settle_good<'a>(
     tables: [&'a [u64]; TABLES],
     charges: &mut [u64],
     credits: &mut [u64],
-) -> Answer
-    requires settleable { Settleable (month_with month head (tables_from (map (λ x. x.now) tables))) }
-    requires outputs_fit { (account_count (month_with month head (tables_from (map (λ x. x.now) tables))) * charge_width ≤ length charges.old) × (owner_count (month_with month head (tables_from (map (λ x. x.now) tables))) * credit_width ≤ length credits.old) }
-    ensures { GoodSettled (month_with month head (tables_from (map (λ x. x.now) tables.entry))) charges.old charges.new credits.old credits.new result }
+) -> Result<(), Refused>
+    requires settleable { Settleable (month_with month head (tables_now tables)) }
+    requires outputs_fit { (account_count (month_with month head (tables_now tables)) * charge_width ≤ length charges.old) × (owner_count (month_with month head (tables_now tables)) * credit_width ≤ length credits.old) }
+    ensures { GoodSettled (month_with month head (tables_now tables.entry)) charges.old charges.new credits.old credits.new (result_answer result) }
 {
     let mut accounts = [0u64; CHARGE_WIDTH * MOST_ACCOUNTS];
     let mut owners = [0u64; CREDIT_WIDTH * MOST_OWNERS];
-    let answer = divide_month(month, head, tables, &mut accounts, &mut owners);
-    let number = answer.number;
-    if number != ACCEPTED {
-        return answer;
-    }
+    divide_month(month, head, tables, &mut accounts, &mut owners)?;
     output::lay(
         &accounts,
         CHARGE_WIDTH,
@@ -134,24 +128,22 @@ fn settle_good<'a>(
         columns::rows_of(tables, Table::Owners),
         credits,
     );
-    answer
+    Ok(())
 }
 
-// Settles a month. Answers what `judgement::judge` refuses; then the first division that is refused, with BIG or BASE, as table 9 with
-// its place as row: with k zones, network zones 0 to k - 1, network non-zone k, then black start and reactive, each zone's split and
-// share in turn and last its non-zone pot, then the firm one at 5k + 3. A refusal writes nothing. Acceptance is 0, 0, 0, and writes
-// each account's charges (network, black start, reactive, firm) to the first words of `charges`, row by row, and each owner's credits
+// Settles a month. Refused is what `judgement::judge` refuses; then the first division that can't be made, with BIG or BASE, as table 9
+// with its place as row: with k zones, network zones 0 to k - 1, network non-zone k, then black start and reactive, each zone's split
+// and share in turn and last its non-zone pot, then the firm one at 5k + 3. A refusal writes nothing. An accepted month writes each
+// account's charges (network, black start, reactive, firm) to the first words of `charges`, row by row, and each owner's credits
 // (network, non-zone network, black start, reactive, firm) to the first words of `credits`; the words behind them stay.
 pub fn settle<'a>(
     head: Head,
     tables: [&'a [u64]; TABLES],
     charges: &mut [u64],
     credits: &mut [u64],
-) -> Answer
-    ensures { Settled (month_of head (tables_from (map (λ x. x.now) tables.entry))) charges.old charges.new credits.old credits.new result }
+) -> Result<(), Refused>
+    ensures { Settled (month_of head (tables_now tables.entry)) charges.old charges.new credits.old credits.new (result_answer result) }
 {
-    match judgement::judge(head, tables, charges.len(), credits.len()) {
-        Judged::Good(month) => settle_good(month, head, tables, charges, credits),
-        Judged::Refused(answer) => answer,
-    }
+    let month = judgement::judge(head, tables, charges.len(), credits.len())?;
+    settle_good(month, head, tables, charges, credits)
 }

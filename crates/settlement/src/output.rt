@@ -10,10 +10,7 @@ pub fn lay(block: &[u64], width: usize, stride: usize, count: usize, out: &mut [
     requires { Layable width stride count block.now out.old }
     ensures { out.new ≡ put (count * width) (laid width (word_in stride block.now)) out.old }
 {
-    let words = count * width;
-    let mut k = 0;
-    while k < words {
+    for k in 0..count * width {
         out[k] = block[k % width * stride + k / width];
-        k += 1;
     }
 }

@@ -14,12 +14,11 @@ fn say(rt: &HostRuntime, failed: &str) {
 fn main(rt: HostRuntime) {
     let mut text = [0u8; MOST_ASKED];
     let mut out = [0u8; MOST_SHOWN];
-    let input = input::read_all(&mut rt.stdin(), &mut text);
-    if input.failed {
+    let Ok(count) = input::read_all(&mut rt.stdin(), &mut text) else {
         say(&rt, "statement: standard input can't be read");
         return;
-    }
-    let length = statement_text::state_file(&text, input.count, &mut out);
+    };
+    let length = statement_text::state_file(&text, count, &mut out);
     if rt.write_all(&out[..length]).is_err() {
         say(&rt, "statement: standard output can't be written");
     }

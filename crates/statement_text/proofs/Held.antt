@@ -4,7 +4,7 @@ use mathlib.Core.Path.{◌≡◌, sym, ap, ap₂, ◌∙◌}
 use mathlib.Core.Logic.{◌≢◌}
 use mathlib.Core.List.{List}
 use Prim.Native.Nat.{ℕ, ◌*◌, ◌≤◌}
-use native.Mathlib.Nat.{le_trans, le_of_eq}
+use native.Mathlib.Nat.{le_of_eq}
 use lib.ListN.{length, replicate, length-replicate}
 use Rattle.tables.specs.declared.Table.{Table}
 use Rattle.tables.specs.Shape.{place_of, width, limit, Tables, words_of}
@@ -13,8 +13,7 @@ use Rattle.fileform.specs.Form.{month_form}
 use Rattle.fileform.specs.Reading.{Outcome, got, refused, nth, Contents, reading}
 use Rattle.fileform.proofs.Each.{words_by, same_tables}
 use Rattle.fileform.proofs.Contents.{written_then_read}
-use Rattle.fileread.specs.declared.Reading.{Reading}
-use Rattle.fileread.specs.Calls.{read_answer, Reads, count_in, words_read, tables_read}
+use Rattle.fileread.specs.Calls.{Reading, read_answer, Reads, count_in, words_read, tables_read}
 use Rattle.monthfile.specs.Refused.{Full}
 use Rattle.monthfile.proofs.ReadCalls.{outcome_full}
 use Rattle.monthfile.proofs.RoundTrips.{TextRead, text_read}
@@ -44,10 +43,7 @@ module _ (text : List ℕ) (lent : Tables) (full : (table : Table) → Full lent
     read : TextRead text held after
     read = text_read text lent after held r z
 
-    -- the rows that were read are no more than there may be, and are there ..
-    pub rows_few : (table : Table) → count_in held table ≤ limit table
-    rows_few table = le_trans (le_of_eq (read.table_read table).count_is) (read.table_read table).fits.few
-
+    -- the rows that were read are there ..
     pub rows_there : (table : Table) → count_in held table * width table ≤ length (words_of after table)
     rows_there table = (read.table_read table).there
 

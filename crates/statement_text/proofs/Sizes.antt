@@ -13,7 +13,14 @@ use Rattle.lists.proofs.Ranks.{lt_or_le}
 use Rattle.lists.specs.Sums.{at}
 use Rattle.lists.proofs.Sums.{sum_const}
 use Rattle.lists.proofs.Entries.{length_listed}
+use Rattle.std.specs.Prelude.{Result, Ok, Err}
+use Rattle.std.specs.Result.{IsOk}
 use Rattle.answer.specs.declared.Answer.{Answer}
+use Rattle.answer.specs.declared.Refused.{Refused}
+use Rattle.answer.specs.Numbers.{HEAD}
+use Rattle.answer.proofs.Turns.{refuse_number}
+use Rattle.answer.proofs.Results.{refused_some}
+use Rattle.fileform.proofs.Rooms.{room_enough}
 use Rattle.tables.specs.declared.Table.TheVariants.{Owners, Accounts}
 use Rattle.tables.specs.Shape.{limit, charge_width, credit_width}
 use Rattle.text.specs.Bytes.{bytes}
@@ -23,7 +30,7 @@ use Rattle.text.proofs.Stores.{stored_in_front}
 use Rattle.fileform.specs.Writing.{rows_text}
 use Rattle.pool.specs.Input.{Input, owner_count, account_count}
 use Rattle.settlement.specs.Accepted.{Accepted}
-use Rattle.statement_lines.specs.declared.Shown.{Shown}
+use Rattle.statement_lines.specs.Calls.{Shown, shown_of}
 use Rattle.statement_lines.specs.Lines.{rows_with, lines_text, refuse_line}
 use Rattle.statement_lines.proofs.Showing.{fitting_all}
 use Rattle.statement_text.specs.Statement.{statement_lines, settled_answer, most_bytes, charge_line, credit_line, total_line, most_shown, statement_of}
@@ -79,17 +86,26 @@ pub statement_short : (text : List ℕ) → length (statement_of text) ≤ most_
 statement_short = stated_as (λ l. length l ≤ most_shown) refusal_short month_short
 
 -- in so much room every statement is shown whole
+module _ (text lent : List ℕ) (room : length lent ≡ most_shown) where
+  fits : length (statement_of text) ≤ length lent
+  fits = le_trans (statement_short text) (le_of_eq (sym room))
+
+  pub shown_ok : (after : List ℕ) (r : Result ℕ Refused) → Shows (statement_of text) lent after (shown_of r) → IsOk r
+  shown_ok after (Ok n) shows = refl
+  shown_ok after (Err e) shows =
+      let enough = room_enough HEAD (length (statement_of text)) (length lent) fits in
+      absurd (refused_some e (ap (λ (a : Answer). a.number) (shows.answers ∙ sym enough) ∙ refuse_number 0 HEAD 0))
+
 pub file_stated : (held : List ℕ) (count : ℕ) (lent after : List ℕ) (s : Shown) → length held ≡ most_bytes + 1 → length lent ≡ most_shown
     → Shows (statement_of (take count held)) lent after s → FileStated held count lent after s.length
 file_stated held count lent after s more room shows =
     let text : List ℕ = statement_of (take count held) in
-    let fits : length text ≤ length lent = le_trans (statement_short (take count held)) (le_of_eq (sym room)) in
-    let all : fitting text (length lent) ≡ text = fitting_all text (length lent) fits in
+    let all : fitting text (length lent) ≡ text = fitting_all text (length lent) (fits (take count held) lent room) in
     record {
       one_more = more;
       enough = room;
       length_is = shows.length_is ∙ ap length all;
-      stores = shows.stores ∙ ap (stored lent 0) all ∙ stored_in_front lent text fits;
+      stores = shows.stores ∙ ap (stored lent 0) all ∙ stored_in_front lent text (fits (take count held) lent room);
     }
 
 pub stated_within : {held : List ℕ} {count : ℕ} {lent after : List ℕ} {r : ℕ} → FileStated held count lent after r → r ≤ length after

@@ -8,9 +8,14 @@ use lib.ListN.{length}
 use borrow.Author.Tests.{lt-ltb, le-ltb, eq-eqb, ne_eqb}
 use Rattle.lists.proofs.Ranks.{lt_or_le}
 use Rattle.answer.specs.declared.Answer.{Answer}
+use Rattle.answer.specs.declared.Refusal.TheVariants.{Count}
+use Rattle.answer.specs.declared.Part.TheVariants.{Head}
+use Rattle.answer.specs.declared.Refused.{Refused}
 use Rattle.answer.specs.Numbers.{COUNT, HEAD}
 use Rattle.answer.specs.Turns.{refuse}
+use Rattle.answer.specs.Results.{refused_answer}
 use Rattle.answer.proofs.Turns.{zero_or_not}
+use Rattle.answer.proofs.Results.{refuse_refused}
 use Rattle.tables.specs.declared.Table.TheVariants.{Owners, Accounts}
 use Rattle.tables.specs.Shape.{limit, charge_width, credit_width}
 use Rattle.fileform.specs.Form.{month_form}
@@ -35,6 +40,11 @@ settled_refused m d = rw (ne_eqb (settled_answer m).number 0 d)
 pub long_text : (text : List ℕ) → most_bytes < length text → statement_of text ≡ refuse_line (refuse COUNT HEAD 0)
 unfolding statement_of
 long_text text h = rw (lt-ltb most_bytes (length text) h)
+
+pub long_refused : (text : List ℕ) → most_bytes < length text → {a : Answer} {r : Refused} → a ≡ refused_answer r
+    → r ≡ record { refusal = Count; part = Head; row = 0 } → refuse_line a ≡ statement_of text
+long_refused text h e f =
+    ap refuse_line (e ∙ ap refused_answer f ∙ sym (refuse_refused (record { refusal = Count; part = Head; row = 0 }))) ∙ sym (long_text text h)
 
 pub short_text : (text : List ℕ) → length text ≤ most_bytes → statement_of text ≡ found_text (reading month_form text)
 unfolding statement_of

@@ -4,7 +4,7 @@ use Rattle.std.specs.Prelude.{◌≡◌, List, ◌++◌, ℕ, ◌+◌, length, t
 use Rattle.statement_text.specs.Statement.{most_bytes, most_shown, statement_of}
 -- "ROOM .. a lent output is too short": the statement is written to the front of lent bytes, or nothing is
 unfoldable pub use Rattle.statement_lines.specs.Calls.{fitting}
-pub use Rattle.statement_lines.specs.Calls.{Shows}
+pub use Rattle.statement_lines.specs.Calls.{Shown, shown_of, Shows}
 
 -- What `state_file` answers, and every lent byte afterwards. "The statement program now reads 65,536 bytes", "more is 1,0,0": the
 -- bytes that are held have room for one more, by which a longer file is seen, and the lent ones for every statement. So there is no

@@ -3,14 +3,14 @@
 // text, `proofs/Promises.antt` what follows from it.
 #![tactic(auto)]
 
-ghost use Rattle.std.specs.Prelude.{map};
-ghost use Rattle.tables.specs.Shape.{tables_from};
+ghost use Rattle.std.specs.Prelude.{◌≡◌, ◌*◌, ◌≤◌, length, take};
+ghost use Rattle.tables.specs.Shape.{width, tables_now};
 ghost use Rattle.pool.specs.Input.{month_of};
 ghost use Rattle.statement_text.specs.Statement.{settled_text, statement_of};
-ghost use Rattle.statement_text.specs.Calls.{Shows, FileStated};
+ghost use Rattle.statement_text.specs.Calls.{Shows, shown_of, FileStated};
 
-use answer::ACCEPTED;
-use statement_lines::{Shown, show_month, show_refusal};
+use answer::{Answer, Part, Refusal, Refused};
+use statement_lines::{show_month, show_refusal};
 use tables::{Head, TABLES, Table};
 
 // The most bytes that a month file may have.
@@ -24,28 +24,44 @@ pub const MOST_SHOWN: usize = 12_144;
 
 // The statement of a month, from its head and tables: it is settled in working memory, and its lines are written, or the line of its
 // refusal.
-fn state_month<'a>(head: Head, tables: [&'a [u64]; TABLES], out: &mut [u8]) -> Shown
-    ensures { Shows (settled_text (month_of head (tables_from (map (λ x. x.now) tables.entry)))) out.old out.new result }
+fn state_month<'a>(
+    head: Head,
+    tables: [&'a [u64]; TABLES],
+    out: &mut [u8],
+) -> Result<usize, Refused>
+    ensures { Shows (settled_text (month_of head (tables_now tables.entry))) out.old out.new (shown_of result) }
 {
     let mut charges = [0u64; tables::MOST_ACCOUNTS * tables::CHARGE_WIDTH];
     let mut credits = [0u64; tables::MOST_OWNERS * tables::CREDIT_WIDTH];
-    let answer = settlement::settle(head, tables, &mut charges, &mut credits);
-    if answer.number != ACCEPTED {
-        return show_refusal(answer, out);
+    match settlement::settle(head, tables, &mut charges, &mut credits) {
+        Ok(()) => show_month(
+            tables::words_of(tables, Table::Accounts),
+            &charges,
+            tables::words_of(tables, Table::Owners),
+            &credits,
+            out,
+        ),
+        Err(refused) => show_refusal(Answer::from(refused), out),
     }
-    let accounts = tables::words_of(tables, Table::Accounts);
-    let owners = tables::words_of(tables, Table::Owners);
-    show_month(accounts, &charges, owners, &credits, out)
+}
+
+// The first rows of a table, so many.
+fn front<'a>(table: Table, count: usize, words: &'a [u64]) -> &'a [u64]
+    requires { count * width table ≤ length words.now }
+    ensures { result.now ≡ take (count * width table) words.now }
+{
+    &words[..count * tables::width(table)]
 }
 
 // Writes the statement of a month file to the front of `out`: a line of charges for each account, a line of credits for each owner
 // and the totals where the month is accepted; the one line of the refusal where it is not, and where the file has too many
-// bytes. ROOM where `out` is too short for the statement: then its length is 0 and `out` is unchanged.
-pub fn statement(text: &[u8], out: &mut [u8]) -> Shown
-    ensures { Shows (statement_of text.now) out.old out.new result }
+// bytes. What is answered is its length, or ROOM where `out` is too short for the statement: then `out` is unchanged.
+pub fn statement(text: &[u8], out: &mut [u8]) -> Result<usize, Refused>
+    ensures { Shows (statement_of text.now) out.old out.new (shown_of result) }
 {
     if MOST_BYTES < text.len() {
-        return show_refusal(answer::refused(answer::COUNT, answer::HEAD, 0), out);
+        let long = Refusal::Count.at(Part::Head, 0);
+        return show_refusal(Answer::from(long), out);
     }
     let mut zones = [0u64; tables::MOST_ZONES * tables::ZONE_WIDTH];
     let mut owners = [0u64; tables::MOST_OWNERS * tables::OWNER_WIDTH];
@@ -54,7 +70,7 @@ pub fn statement(text: &[u8], out: &mut [u8]) -> Shown
     let mut loads = [0u64; tables::MOST_LOADS * tables::LOAD_WIDTH];
     let mut reservations = [0u64; tables::MOST_RESERVATIONS * tables::RESERVATION_WIDTH];
     let mut firm = [0u64; tables::MOST_FIRM * tables::FIRM_WIDTH];
-    let held = fileread::read(
+    let read = fileread::read(
         text,
         &mut zones,
         &mut owners,
@@ -64,32 +80,22 @@ pub fn statement(text: &[u8], out: &mut [u8]) -> Shown
         &mut reservations,
         &mut firm,
     );
-    let answer = held.answer;
-    if answer.number != ACCEPTED {
-        return show_refusal(answer, out);
+    match read {
+        Ok(held) => state_month(
+            held.head,
+            [
+                front(Table::Zones, held.counts[0], &zones),
+                front(Table::Owners, held.counts[1], &owners),
+                front(Table::Units, held.counts[2], &units),
+                front(Table::Accounts, held.counts[3], &accounts),
+                front(Table::Loads, held.counts[4], &loads),
+                front(Table::Reservations, held.counts[5], &reservations),
+                front(Table::Firm, held.counts[6], &firm),
+            ],
+            out,
+        ),
+        Err(refused) => show_refusal(Answer::from(refused), out),
     }
-    let head = held.head;
-    let counts = held.counts;
-    let zonewords = counts[0] * tables::ZONE_WIDTH;
-    let ownerwords = counts[1] * tables::OWNER_WIDTH;
-    let unitwords = counts[2] * tables::UNIT_WIDTH;
-    let accountwords = counts[3] * tables::ACCOUNT_WIDTH;
-    let loadwords = counts[4] * tables::LOAD_WIDTH;
-    let reservationwords = counts[5] * tables::RESERVATION_WIDTH;
-    let firmwords = counts[6] * tables::FIRM_WIDTH;
-    state_month(
-        head,
-        [
-            &zones[..zonewords],
-            &owners[..ownerwords],
-            &units[..unitwords],
-            &accounts[..accountwords],
-            &loads[..loadwords],
-            &reservations[..reservationwords],
-            &firm[..firmwords],
-        ],
-        out,
-    )
 }
 
 // Writes the statement of the file that stands in the first `count` bytes of `text` to the front of `out`, and answers its length.
@@ -97,11 +103,5 @@ pub fn statement(text: &[u8], out: &mut [u8]) -> Shown
 pub fn state_file(text: &[u8; MOST_ASKED], count: usize, out: &mut [u8; MOST_SHOWN]) -> usize
     ensures { FileStated text.now count out.old out.new result }
 {
-    let held: &[u8] = text;
-    if MOST_ASKED < count {
-        let all = statement(held, out);
-        return all.length;
-    }
-    let shown = statement(&held[..count], out);
-    shown.length
+    statement(&text[..count.min(MOST_ASKED)], out).unwrap()
 }

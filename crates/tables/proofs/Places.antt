@@ -15,10 +15,6 @@ use Rattle.tables.specs.Shape.{table_count, table_at, place_of, width, tables_fr
 pub within : (n width i column : ℕ) → i < n / width → column < width → i * width + column < n
 within n width i column h k = lt_of_lt_of_le (digits_lt h k) (div-mul-le_self n width)
 
--- the same, where the width comes from a call
-pub within_row : (n width found i column : ℕ) → found ≡ width → i < n / width → column < width → i * found + column < n
-within_row n width found i column e h k = rw e (within n width i column h k)
-
 pub width_pos : (table : Table) → 0 < width table
 width_pos Zones = omega arith
 width_pos Owners = omega arith

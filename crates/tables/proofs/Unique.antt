@@ -4,14 +4,21 @@ use mathlib.Core.Path.{◌≡◌}
 use mathlib.Core.List.{List}
 use Prim.Native.Nat.{ℕ, ◌/◌}
 use Rattle.lists.proofs.Unique.{one_answer}
-use Rattle.answer.specs.declared.Answer.{Answer}
+use Rattle.std.specs.Prelude.{Result}
+use Rattle.answer.specs.declared.Part.{Part}
+use Rattle.answer.specs.declared.Refused.{Refused}
+use Rattle.answer.specs.Results.{Answers}
+use Rattle.answer.proofs.Results.{answers_unique}
 use Rattle.tables.specs.declared.Table.{Table}
-use Rattle.tables.specs.Shape.{number, table_at, place_of, width, key_columns, limit, tables_from}
+use Rattle.tables.specs.Shape.{number, part, table_at, place_of, width, key_columns, limit, tables_from}
 use Rattle.tables.specs.Columns.{entry}
 use Rattle.tables.specs.Counts.{counts_in_turn}
 
 pub number_unique : (table : Table) (r s : ℕ) → r ≡ number table → s ≡ number table → r ≡ s
 number_unique table r s = one_answer _ r s
+
+pub part_unique : (table : Table) (r s : Part) → r ≡ part table → s ≡ part table → r ≡ s
+part_unique table r s = one_answer _ r s
 
 pub width_unique : (table : Table) (r s : ℕ) → r ≡ width table → s ≡ width table → r ≡ s
 width_unique table r s = one_answer _ r s
@@ -34,5 +41,5 @@ place_of_unique table r s = one_answer _ r s
 pub key_columns_unique : (table : Table) (r s : ℕ) → r ≡ key_columns table → s ≡ key_columns table → r ≡ s
 key_columns_unique table r s = one_answer _ r s
 
-pub count_tables_unique : (tables : List (List ℕ)) (r s : Answer) → r ≡ counts_in_turn (tables_from tables) → s ≡ counts_in_turn (tables_from tables) → r ≡ s
-count_tables_unique tables r s = one_answer _ r s
+pub count_tables_unique : (tables : List (List ℕ)) (r s : Result (Unit {0}) Refused) → Answers r (counts_in_turn (tables_from tables)) → Answers s (counts_in_turn (tables_from tables)) → r ≡ s
+count_tables_unique tables r s = answers_unique r s _

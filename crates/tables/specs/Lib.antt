@@ -1,3 +1,4 @@
 pub mod Shape
+pub mod Heads
 pub mod Columns
 pub mod Counts

@@ -1,8 +1,11 @@
 -- The paper's list of tables 1 to 6, and table 10: each one's number, how many entries a row has, how many rows there may be, by
 -- which entries they ascend.
 -- Assumes nothing.
-use Rattle.std.specs.Prelude.{ℕ, zero, suc, ◌/◌, List, [], length, get_or}
-use Rattle.answer.specs.Numbers as numbers
+use Rattle.std.specs.Borrow.{Bor}
+use Rattle.std.specs.Prelude.{ℕ, zero, suc, ◌/◌, List, [], length, map, get_or}
+use Rattle.answer.specs.declared.Part.{Part}
+use Rattle.answer.specs.declared.Part.TheVariants as parts
+use Rattle.answer.specs.Numbers.{part_number}
 use Rattle.tables.specs.declared.Shape.{Shape}
 use Rattle.tables.specs.declared.Table.{Table}
 use Rattle.tables.specs.declared.Table.TheVariants.{Zones, Owners, Units, Accounts, Loads, Reservations, Firm}
@@ -21,23 +24,26 @@ table_at (suc (suc (suc (suc zero)))) = Loads
 table_at (suc (suc (suc (suc (suc zero))))) = Reservations
 table_at (suc (suc (suc (suc (suc (suc k)))))) = Firm
 
--- the paper's list: a table's place, its number ("Table numbers are used in refusals"), how many entries a row has, how many of them in
+-- the paper's list: a table's place, what it is in a refusal ("Table numbers are used in refusals"), how many entries a row has, how many of them in
 -- front are its key ("Zones, owners, units, accounts and reservations strictly ascend by their first entry, loads by account, then day",
 -- table 10 "ascending by the first four"), and "at most" how many rows there are
 abbrev pub shape_of : Table → Shape
-shape_of Zones = record { place = 0; number = numbers.ZONES; width = 2; keys = 1; limit = 16 }
-shape_of Owners = record { place = 1; number = numbers.OWNERS; width = 3; keys = 1; limit = 64 }
-shape_of Units = record { place = 2; number = numbers.UNITS; width = 6; keys = 1; limit = 64 }
-shape_of Accounts = record { place = 3; number = numbers.ACCOUNTS; width = 3; keys = 1; limit = 32 }
-shape_of Loads = record { place = 4; number = numbers.LOADS; width = 3; keys = 2; limit = 992 }
-shape_of Reservations = record { place = 5; number = numbers.RESERVATIONS; width = 3; keys = 1; limit = 32 }
-shape_of Firm = record { place = 6; number = numbers.FIRM; width = 5; keys = 4; limit = 992 }
+shape_of Zones = record { place = 0; part = parts.Zones; width = 2; keys = 1; limit = 16 }
+shape_of Owners = record { place = 1; part = parts.Owners; width = 3; keys = 1; limit = 64 }
+shape_of Units = record { place = 2; part = parts.Units; width = 6; keys = 1; limit = 64 }
+shape_of Accounts = record { place = 3; part = parts.Accounts; width = 3; keys = 1; limit = 32 }
+shape_of Loads = record { place = 4; part = parts.Loads; width = 3; keys = 2; limit = 992 }
+shape_of Reservations = record { place = 5; part = parts.Reservations; width = 3; keys = 1; limit = 32 }
+shape_of Firm = record { place = 6; part = parts.Firm; width = 5; keys = 4; limit = 992 }
 
 abbrev pub place_of : Table → ℕ
 place_of table = (shape_of table).place
 
+abbrev pub part : Table → Part
+part table = (shape_of table).part
+
 abbrev pub number : Table → ℕ
-number table = (shape_of table).number
+number table = part_number (part table)
 
 abbrev pub width : Table → ℕ
 width table = (shape_of table).width
@@ -76,6 +82,10 @@ tables_of z o u a l r f = record { zones = z; owners = o; units = u; accounts = 
 -- .. of a list of them, in their order
 abbrev pub tables_from : List (List ℕ) → Tables
 tables_from l = tables_of (get_or l 0 []) (get_or l 1 []) (get_or l 2 []) (get_or l 3 []) (get_or l 4 []) (get_or l 5 []) (get_or l 6 [])
+
+-- .. of slices, as they are now
+abbrev pub tables_now : List (Bor (List ℕ)) → Tables
+tables_now slices = tables_from (map (λ x. x.now) slices)
 
 -- the words of one of them
 abbrev pub words_of : Tables → Table → List ℕ

@@ -1,36 +1,30 @@
 // COUNT: whether each table is whole rows, and no more of them than it may have.
-ghost use Rattle.std.specs.Prelude.{◌≡◌, map};
-ghost use Rattle.answer.specs.Turns.{◌then◌};
-ghost use Rattle.tables.specs.Shape.{tables_from};
+ghost use Rattle.answer.specs.Results.{Answers};
+ghost use Rattle.tables.specs.Shape.{tables_now};
 ghost use Rattle.tables.specs.Counts.{counted, counts_in_turn};
 
 use crate::{TABLES, Table};
-use answer::Answer;
+use answer::{Refusal, Refused};
 
 // COUNT: a table that is not whole rows, or has more than it may.
-fn judge_count(before: Answer, table: Table, words: usize) -> Answer
-    ensures { result ≡ (before then counted table words) }
+#[tactic(auto, unfolding(crate::specs::Counts::counted, answer::specs::Turns::refuse))]
+fn judge_count(table: Table, words: usize) -> Result<(), Refused>
+    ensures { Answers result (counted table words) }
 {
     let torn = words % crate::width(table) != 0;
     let over = crate::limit(table) < crate::rows_in(table, words);
-    let count = answer::look(torn | over, answer::COUNT, answer::ACCEPTED);
-    answer::look_at(before, count, crate::number(table))
+    if torn || over {
+        return Err(Refusal::Count.at(crate::part(table), 0));
+    }
+    Ok(())
 }
 
 // COUNT for every table in turn.
-pub fn count_tables<'a>(tables: [&'a [u64]; TABLES]) -> Answer
-    ensures { result ≡ counts_in_turn (tables_from (map (λ x. x.now) tables.entry)) }
+pub fn count_tables<'a>(tables: [&'a [u64]; TABLES]) -> Result<(), Refused>
+    ensures { Answers result (counts_in_turn (tables_now tables.entry)) }
 {
-    let mut answer = Answer {
-        number: answer::ACCEPTED,
-        table: answer::HEAD,
-        row: 0,
-    };
-    let mut k = 0;
-    while k < TABLES {
-        let words = tables[k];
-        answer = judge_count(answer, crate::table_at(k), words.len());
-        k += 1;
+    for k in 0..TABLES {
+        judge_count(crate::table_at(k), tables[k].len())?;
     }
-    answer
+    Ok(())
 }

@@ -1,18 +1,20 @@
-// The shape of a month's head and of its tables 1 to 6 and 10: the number of each table, how many entries its rows have, by how many of
-// them they ascend, how many rows it may have, and the limits of what stands in them. A table is named by a `Table`; its rows lie
+// The shape of a month's head and of its tables 1 to 6 and 10: what a refusal calls each table, how many entries its rows have, by how
+// many of them they ascend, how many rows it may have, and the limits of what stands in them. A table is named by a `Table`; its rows lie
 // end to end in one slice of words, and the tables that are only read go as one array of such slices, in the order of their numbers.
 // `columns` has each entry of a row by name, and `counts` judges whether tables are whole rows and no more than they may have.
 #![tactic(auto)]
 
-ghost use Rattle.std.specs.Prelude.{◌≡◌, map, ◌/◌};
-ghost use Rattle.tables.specs.Shape.{shape_of, table_at, place_of, number, width, key_columns, limit, tables_from, words_of};
+ghost use Rattle.std.specs.Prelude.{◌≡◌, ◌/◌};
+ghost use Rattle.tables.specs.Shape.{shape_of, table_at, place_of, part, width, key_columns, limit, tables_now, words_of};
+
+use answer::Part;
 
 pub mod columns;
 pub mod counts;
 
 // The head of a month, plain numbers: which month, how many days it has, the non-zone rate, the rates of firm service by the day, the
 // week and the month, and the weekday of day 1, from Monday on.
-#[derive(Clone, Copy)]
+#[derive(Clone, Copy, Debug, PartialEq, Eq)]
 pub struct Head {
     pub month: u64,
     pub days: u64,
@@ -26,11 +28,48 @@ pub struct Head {
 // How many numbers a head has.
 pub const HEADS: usize = 7;
 
+impl From<[u64; HEADS]> for Head {
+    ghost use Rattle.tables.specs.Heads.{GivesHead};
+
+    ghost from_gives = { GivesHead };
+
+    fn from(numbers: [u64; HEADS]) -> Head {
+        let [month, days, nonzone, daily, weekly, monthly, weekday] = numbers;
+        Head {
+            month,
+            days,
+            nonzone,
+            daily,
+            weekly,
+            monthly,
+            weekday,
+        }
+    }
+}
+
+impl From<Head> for [u64; HEADS] {
+    ghost use Rattle.tables.specs.Heads.{GivesNumbers};
+
+    ghost from_gives = { GivesNumbers };
+
+    fn from(head: Head) -> [u64; HEADS] {
+        [
+            head.month,
+            head.days,
+            head.nonzone,
+            head.daily,
+            head.weekly,
+            head.monthly,
+            head.weekday,
+        ]
+    }
+}
+
 // How many tables there are.
 pub const TABLES: usize = 7;
 
 // One of tables 1 to 6, or table 10.
-#[derive(Clone, Copy)]
+#[derive(Clone, Copy, Debug, PartialEq, Eq)]
 pub enum Table {
     Zones,
     Owners,
@@ -100,7 +139,8 @@ pub const MOST_ENERGY: u64 = 1_000_000_000;
 
 pub const MOST_CAPACITY: u64 = 1_000_000;
 
-// The two services.
+// The two services. They, the terms and the mark of MISO delivery are entries of a table: before it is judged any number may stand
+// there, and what follows from it is defined for every number, so they stay numbers.
 pub const BLACK_START: u64 = 1;
 
 pub const REACTIVE: u64 = 2;
@@ -133,12 +173,12 @@ pub fn table_at(place: usize) -> Table
     }
 }
 
-// What the paper's list says of a table: its place among the tables, its number in a refusal, how many entries a row has, how many of
+// What the paper's list says of a table: its place among the tables, its name in a refusal, how many entries a row has, how many of
 // them in front are the key by which the rows ascend, and how many rows there may be.
-#[derive(Clone, Copy)]
+#[derive(Clone, Copy, Debug, PartialEq, Eq)]
 pub struct Shape {
     pub place: usize,
-    pub number: u64,
+    pub part: Part,
     pub width: usize,
     pub keys: usize,
     pub limit: usize,
@@ -151,49 +191,49 @@ pub fn shape_of(table: Table) -> Shape
     match table {
         Table::Zones => Shape {
             place: 0,
-            number: answer::ZONES,
+            part: Part::Zones,
             width: ZONE_WIDTH,
             keys: 1,
             limit: MOST_ZONES,
         },
         Table::Owners => Shape {
             place: 1,
-            number: answer::OWNERS,
+            part: Part::Owners,
             width: OWNER_WIDTH,
             keys: 1,
             limit: MOST_OWNERS,
         },
         Table::Units => Shape {
             place: 2,
-            number: answer::UNITS,
+            part: Part::Units,
             width: UNIT_WIDTH,
             keys: 1,
             limit: MOST_UNITS,
         },
         Table::Accounts => Shape {
             place: 3,
-            number: answer::ACCOUNTS,
+            part: Part::Accounts,
             width: ACCOUNT_WIDTH,
             keys: 1,
             limit: MOST_ACCOUNTS,
         },
         Table::Loads => Shape {
             place: 4,
-            number: answer::LOADS,
+            part: Part::Loads,
             width: LOAD_WIDTH,
             keys: 2,
             limit: MOST_LOADS,
         },
         Table::Reservations => Shape {
             place: 5,
-            number: answer::RESERVATIONS,
+            part: Part::Reservations,
             width: RESERVATION_WIDTH,
             keys: 1,
             limit: MOST_RESERVATIONS,
         },
         Table::Firm => Shape {
             place: 6,
-            number: answer::FIRM,
+            part: Part::Firm,
             width: FIRM_WIDTH,
             keys: 4,
             limit: MOST_FIRM,
@@ -207,10 +247,10 @@ pub fn place_of(table: Table) -> usize
     shape_of(table).place
 }
 
-pub fn number(table: Table) -> u64
-    ensures { result ≡ number table }
+pub fn part(table: Table) -> Part
+    ensures { result ≡ part table }
 {
-    shape_of(table).number
+    shape_of(table).part
 }
 
 pub fn width(table: Table) -> usize
@@ -233,7 +273,7 @@ pub fn limit(table: Table) -> usize
 
 // The words of one of the tables.
 pub fn words_of<'a>(tables: [&'a [u64]; TABLES], table: Table) -> &'a [u64]
-    ensures { result.now ≡ words_of (tables_from (map (λ x. x.now) tables.entry)) table }
+    ensures { result.now ≡ words_of (tables_now tables.entry) table }
 {
     tables[place_of(table)]
 }

@@ -27,14 +27,6 @@ pub digit_low : (byte : ℕ) → byte < zero_byte → is_digit byte ≡ false
 unfolding is_digit
 digit_low byte h = rw (lt-leb 48 byte h)
 
-pub digit_high : (byte : ℕ) → 58 ≤ byte → is_digit byte ≡ false
-unfolding is_digit
-digit_high byte h = outside (leb 48 byte) (le-ltb byte 58 h)
-  where
-    outside : (t : Bool) → ltb byte 58 ≡ false → (t && ltb byte 58) ≡ false
-    outside true e = e
-    outside false e = refl
-
 pub digit_range : (byte : ℕ) → is_digit byte ≡ true → (zero_byte ≤ byte) × (byte < 58)
 unfolding is_digit
 digit_range byte e = both (leb 48 byte) (ltb byte 58) refl refl e
@@ -260,3 +252,14 @@ decimal_tenth n h b =
 
 pub length_tenth : (n : ℕ) → 10 ≤ n → n < bound → length (decimal n) ≡ length (decimal (n / 10)) + 1
 length_tenth n h b = ap length (decimal_tenth n h b) ∙ length-append (decimal (n / 10)) (digit_byte (n % 10) ∷ [])
+
+-- one digit or more
+pub one_digit : (n : ℕ) → n < bound → length (decimal n) ≤ 1 → n < 10
+one_digit n b h =
+    ⊎_elim (λ (low : n < 10). low)
+    (λ (high : 10 ≤ n). let tenth = length_tenth n high b in absurd (omega (arith, length_decimal (n / 10))))
+    (lt_or_le n 10)
+
+pub more_digits : (n : ℕ) → 2 ≤ length (decimal n) → 10 ≤ n
+more_digits n h =
+    ⊎_elim (λ (low : n < 10). absurd (omega (arith, ap length (decimal_one n low)))) (λ (high : 10 ≤ n). high) (lt_or_le n 10)

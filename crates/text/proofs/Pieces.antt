@@ -4,17 +4,13 @@ use mathlib.Core.Path.{◌≡◌, refl, sym, ap, ap₂, ◌∙◌}
 use mathlib.Core.List.{List, [], ◌∷◌, ◌++◌}
 use Prim.Native.Nat.{ℕ, suc, ◌+◌, ◌-◌, ◌≤◌, ◌<◌}
 use native.Mathlib.Omega.{arith}
-use lib.ListN.{length, take, drop, set, length-append, length-drop}
-use lib.Seq.{length-take-le}
+use lib.ListN.{length, drop, set, length-append, length-drop}
 use Rattle.lists.specs.Sums.{at}
 use Rattle.text.specs.Numbers.{decimal}
 use Rattle.text.specs.Lines.{equals, separator, fields_text, line_text}
 use Rattle.text.specs.Places.{stored, PutAt}
-use Rattle.text.proofs.Places.{drop_next}
+use Rattle.text.proofs.Places.{drop_next, drop_end}
 use Rattle.text.proofs.Stores.{stored_append, stored_first, put_append, put_one}
-
-pub take_none : (l : List ℕ) (n : ℕ) → n ≤ 0 → take n l ≡ []
-take_none l n h = let z : n ≡ 0 = omega arith in ap (λ k. take k l) z
 
 pub text_none : fields_text [] ≡ []
 unfolding fields_text
@@ -29,39 +25,31 @@ unfolding line_text
 length_key key ns =
     length-append (key ++ (equals ∷ [])) (fields_text ns) ∙ ap (λ k. k + length (fields_text ns)) (length-append key (equals ∷ []))
 
-module _ (words : List ℕ) (left next : ℕ) (p : 0 < left) (h : next + left ≤ length words) where
-  pub take_next : take left (drop next words) ≡ at words next ∷ take (left - 1) (drop (next + 1) words)
-  take_next =
-      let e : left ≡ suc (left - 1) = omega arith in
-      ap₂ take e (drop_next words next (omega arith))
+pub text_done : (ns : List ℕ) (k : ℕ) → length ns ≤ k → fields_text (drop k ns) ≡ []
+text_done ns k h = ap fields_text (drop_end ns k h) ∙ text_none
 
-  tail_size : length (take (left - 1) (drop (next + 1) words)) ≡ left - 1
-  tail_size = length-take-le (left - 1) (drop (next + 1) words) (rw length-drop (omega arith))
-
-  pub text_next : fields_text (take left (drop next words))
-      ≡ decimal (at words next) ++ (separator (left - 1) ∷ fields_text (take (left - 1) (drop (next + 1) words)))
+module _ (ns : List ℕ) (k : ℕ) (h : k < length ns) where
+  pub text_next : fields_text (drop k ns) ≡ decimal (at ns k) ++ (separator (length ns - (k + 1)) ∷ fields_text (drop (k + 1) ns))
   text_next =
-      ap fields_text take_next
-      ∙ text_first (at words next) (take (left - 1) (drop (next + 1) words))
-      ∙ ap (λ k. decimal (at words next) ++ (separator k ∷ fields_text (take (left - 1) (drop (next + 1) words)))) tail_size
+      ap fields_text (drop_next ns k h)
+      ∙ text_first (at ns k) (drop (k + 1) ns)
+      ∙ ap (λ n. decimal (at ns k) ++ (separator n ∷ fields_text (drop (k + 1) ns))) (length-drop (k + 1) ns)
 
-  pub length_next : length (fields_text (take left (drop next words)))
-      ≡ length (decimal (at words next)) + (1 + length (fields_text (take (left - 1) (drop (next + 1) words))))
+  pub length_next : length (fields_text (drop k ns)) ≡ length (decimal (at ns k)) + (1 + length (fields_text (drop (k + 1) ns)))
   length_next =
       ap length text_next
-      ∙ length-append (decimal (at words next)) (separator (left - 1) ∷ fields_text (take (left - 1) (drop (next + 1) words)))
-      ∙ (let q : length (decimal (at words next)) + suc (length (fields_text (take (left - 1) (drop (next + 1) words))))
-      ≡ length (decimal (at words next)) + (1 + length (fields_text (take (left - 1) (drop (next + 1) words)))) = omega arith in q)
+      ∙ length-append (decimal (at ns k)) (separator (length ns - (k + 1)) ∷ fields_text (drop (k + 1) ns))
+      ∙ (let q : length (decimal (at ns k)) + suc (length (fields_text (drop (k + 1) ns)))
+      ≡ length (decimal (at ns k)) + (1 + length (fields_text (drop (k + 1) ns))) = omega arith in q)
 
-  pub put_next : (out : List ℕ) (i n behind : ℕ) (mid : List ℕ) → PutAt out i (decimal (at words next)) n mid → behind ≡ separator (left - 1)
-      → stored (set mid n behind) (n + 1) (fields_text (take (left - 1) (drop (next + 1) words)))
-      ≡ stored out i (fields_text (take left (drop next words)))
+  pub put_next : (out : List ℕ) (i n behind : ℕ) (mid : List ℕ) → PutAt out i (decimal (at ns k)) n mid → behind ≡ separator (length ns - (k + 1))
+      → stored (set mid n behind) (n + 1) (fields_text (drop (k + 1) ns)) ≡ stored out i (fields_text (drop k ns))
   put_next out i n behind mid w e =
-      let tail : List ℕ = fields_text (take (left - 1) (drop (next + 1) words)) in
-      ap (λ k. stored (set mid n k) (n + 1) tail) e
-      ∙ sym (stored_first mid n (separator (left - 1)) tail)
-      ∙ ap₂ (λ l k. stored l k (separator (left - 1) ∷ tail)) w.written w.onward
-      ∙ sym (stored_append out i (decimal (at words next)) (separator (left - 1) ∷ tail))
+      let tail : List ℕ = fields_text (drop (k + 1) ns) in
+      ap (λ b. stored (set mid n b) (n + 1) tail) e
+      ∙ sym (stored_first mid n (separator (length ns - (k + 1))) tail)
+      ∙ ap₂ (λ l j. stored l j (separator (length ns - (k + 1)) ∷ tail)) w.written w.onward
+      ∙ sym (stored_append out i (decimal (at ns k)) (separator (length ns - (k + 1)) ∷ tail))
       ∙ ap (stored out i) (sym text_next)
 
 -- a key, its equals sign and the fields, one after the other

@@ -1,13 +1,13 @@
 -- Entries stored one after the other: two pieces in a row are one, the last entry may come first, and all but the piece stays.
 -- Assumes nothing.
 use mathlib.Core.Path.{◌≡◌, refl, sym, ap, ap₂, ◌∙◌}
-use mathlib.Core.List.{List, [], ◌∷◌, ◌++◌}
-use Prim.Native.Nat.{ℕ, suc, ◌+◌, ◌≤◌, min}
+use mathlib.Core.List.{List, [], ◌∷◌, ◌++◌, append_assoc}
+use Prim.Native.Nat.{ℕ, suc, ◌+◌, ◌-◌, ◌≤◌, min}
 use native.Mathlib.Nat.{zero-add, add-zero, add-suc, suc-add}
 use native.Mathlib.Numerals.{add-one}
 use native.Mathlib.Omega.{arith}
 use lib.ListN.{length, take, drop, set, length-append}
-use lib.Seq.{sets, length-sets, sets-eq, set_comm}
+use lib.Seq.{drop-drop, sets, length-sets, sets-eq, set_comm}
 use Rattle.text.specs.Places.{stored, PutAt, Sized}
 
 pub stored_none : (l : List ℕ) (at : ℕ) → stored l at [] ≡ l
@@ -31,6 +31,15 @@ pub stored_is : (l : List ℕ) (at : ℕ) (vs : List ℕ) → at + length vs ≤
     → stored l at vs ≡ (take at l ++ vs) ++ drop (at + length vs) l
 unfolding stored
 stored_is l at vs h = sets-eq vs l at h
+
+-- .. as a slice's part is written
+pub stored_part : (l : List ℕ) (at end : ℕ) (vs ws : List ℕ) → ws ≡ vs → end ≡ at + length vs → end ≤ length l
+    → take at l ++ (ws ++ drop (end - at) (drop at l)) ≡ stored l at vs
+stored_part l at end vs ws e q h =
+    let size : at + (end - at) ≡ at + length vs = omega arith in
+    ap₂ (λ x y. take at l ++ (x ++ y)) e (drop-drop (end - at) at l ∙ ap (λ k. drop k l) size)
+    ∙ sym (append_assoc (take at l) vs (drop (at + length vs) l))
+    ∙ sym (stored_is l at vs (omega arith))
 
 -- .. in front
 pub stored_in_front : (l vs : List ℕ) → length vs ≤ length l → stored l 0 vs ≡ vs ++ drop (length vs) l

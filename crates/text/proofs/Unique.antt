@@ -1,10 +1,11 @@
 -- The contracts determine the answers: two answers, and two lent memories after, that one of them allows are equal.
 -- Assumes nothing.
-use mathlib.Core.Path.{◌≡◌, sym, ap, ◌∙◌, subst}
+use mathlib.Core.Path.{◌≡◌, refl, sym, ap, ◌∙◌, subst}
 use mathlib.Core.Logic.{◌≢◌, ◌⊎◌, inl, inr}
 use mathlib.Core.Bool.{true, false}
 use mathlib.Core.List.{List}
 use Prim.Native.Nat.{ℕ, ◌-◌, ◌≤◌}
+use Rattle.std.specs.Prelude.{Option, None, Some}
 use native.Mathlib.Omega.{arith}
 use lib.Dec.{eqb}
 use lib.ListN.{length, drop, length-drop}
@@ -47,30 +48,31 @@ module _ {A : Type 0} (s : List ℕ) (o : Found A) (none : ℕ) where
           let y = b.0 (eqb-false m none f) in
           same_offset s n m x.0 y.0 (ap rest (sym x.1.1 ∙ y.1.1))
 
-abbrev value_of : Found ℕ → ℕ
-value_of (found x t) = x
-value_of missing = 0
+-- an outcome is not both there and missing
+both : {A B : Type 0} (o : Found A) (x : A) (t : List ℕ) → o ≡ missing → o ≡ found x t → B
+both o x t a b = absurd (never a b)
 
 -- `number_at`, `field_at`
-pub number_at_unique : (s : List ℕ) (o : Found ℕ) (r q : Number) → NumberAt s o r → NumberAt s o q → r ≡ q
-number_at_unique s o r q a b =
-    let next : r.next ≡ q.next =
-    same_place s o 0 r.next q.next ((λ d. (a.inside, (r.value, a.fits d))), (λ z. (a.unfit z).0))
-    ((λ d. (b.inside, (q.value, b.fits d))), (λ z. (b.unfit z).0)) in
-    let value : r.value ≡ q.value = go next (true_or_false (eqb r.next 0)) in
-    λ i. record { value = value i; next = next i }
-  where
-    go : r.next ≡ q.next → (eqb r.next 0 ≡ true) ⊎ (eqb r.next 0 ≡ false) → r.value ≡ q.value
-    go n (inl e) =
-        (a.unfit (eqb-true r.next 0 e)).1 ∙ sym (b.unfit (sym n ∙ eqb-true r.next 0 e)).1
-    go n (inr e) =
-        let some : r.next ≢ 0 = eqb-false r.next 0 e in
-        ap value_of (sym (a.fits some) ∙ b.fits (λ z. some (n ∙ z)))
+pub number_at_unique : (s : List ℕ) (o : Found ℕ) (r q : Option Number) → NumberAt s o r → NumberAt s o q → r ≡ q
+number_at_unique s o None None a b = refl
+number_at_unique s o None (Some m) a b = both o m.value (drop m.next s) a b.1
+number_at_unique s o (Some n) None a b = both o n.value (drop n.next s) b a.1
+number_at_unique s o (Some n) (Some m) a b =
+    let same : found n.value (drop n.next s) ≡ found m.value (drop m.next s) = sym a.1 ∙ b.1 in
+    let value : n.value ≡ m.value = cc in
+    let behind : drop n.next s ≡ drop m.next s = cc in
+    let next : n.next ≡ m.next = same_offset s n.next m.next a.0 b.0 behind in
+    λ i. Some (record { value = value i; next = next i })
 
 -- `line_at`, `reader::next_line`
-pub line_at_unique : (s : List ℕ) (o : Found (List ℕ)) (n m : ℕ) → LineAt s o n → LineAt s o m → n ≡ m
-line_at_unique s o n m a b =
-    same_place s o 0 n m ((λ d. (a.inside, a.fits d)), a.unfit) ((λ d. (b.inside, b.fits d)), b.unfit)
+pub line_at_unique : (s : List ℕ) (o : Found (List ℕ)) (n m : Option ℕ) → LineAt s o n → LineAt s o m → n ≡ m
+line_at_unique s o None None a b = refl
+line_at_unique s o None (Some m) a b = both o b.1.0 (drop m s) a b.1.1
+line_at_unique s o (Some n) None a b = both o a.1.0 (drop n s) b a.1.1
+line_at_unique s o (Some n) (Some m) a b =
+    let same : found a.1.0 (drop n s) ≡ found b.1.0 (drop m s) = sym a.1.1 ∙ b.1.1 in
+    let behind : drop n s ≡ drop m s = cc in
+    ap Some (same_offset s n m a.0 b.0 behind)
 
 -- `line_end`
 pub end_at_unique : (s : List ℕ) (i : ℕ) (o : Found (List ℕ)) (n m : ℕ) → EndAt s i o n → EndAt s i o m → n ≡ m

@@ -1,22 +1,20 @@
 -- Reading and writing at a place of lent bytes: what a call answers and leaves, in terms of the text from there on.
 -- Assumes nothing.
-use Rattle.std.specs.Prelude.{◌≡◌, ◌≢◌, List, [], ◌++◌, ◌∷◌, ℕ, ◌+◌, ◌≤◌, min, length, drop}
+use Rattle.std.specs.Prelude.{◌≡◌, ◌≢◌, List, [], ◌++◌, ◌∷◌, ℕ, Option, None, Some, ◌+◌, ◌≤◌, min, length, drop}
 use Rattle.std.proofs.lemmas.List.Edits.{sets}
 use Rattle.text.specs.declared.number.Number.{Number}
 use Rattle.text.specs.Numbers.{Found, found, missing}
 use Rattle.text.specs.Lines.{equals, past}
 
--- a number that was read in the text s and the offset behind it; both 0 where there is none (no number ends at 0)
-pub record NumberAt (s : List ℕ) (o : Found ℕ) (r : Number) : Type 0 where
-  pub inside : r.next ≤ length s
-  pub fits : r.next ≢ 0 → o ≡ found r.value (drop r.next s)
-  pub unfit : r.next ≡ 0 → (o ≡ missing) × (r.value ≡ 0)
+-- a number that was read in the text s, with the offset behind it, or none
+abbrev pub NumberAt : List ℕ → Found ℕ → Option Number → Type 0
+NumberAt s o None = o ≡ missing
+NumberAt s o (Some n) = (n.next ≤ length s) × (o ≡ found n.value (drop n.next s))
 
--- some fields or a whole line that were read, and the offset behind them, 0 where they don't fit
-pub record LineAt (s : List ℕ) (o : Found (List ℕ)) (next : ℕ) : Type 0 where
-  pub inside : next ≤ length s
-  pub fits : next ≢ 0 → (ns : List ℕ) × (o ≡ found ns (drop next s))
-  pub unfit : next ≡ 0 → o ≡ missing
+-- the offset behind some fields or a whole line that were read, or none
+abbrev pub LineAt : List ℕ → Found (List ℕ) → Option ℕ → Type 0
+LineAt s o None = o ≡ missing
+LineAt s o (Some next) = (next ≤ length s) × ((ns : List ℕ) × (o ≡ found ns (drop next s)))
 
 -- where a line ends that was to be read from an offset on, the offset itself where it doesn't fit (a line has bytes)
 pub record EndAt (s : List ℕ) (at : ℕ) (o : Found (List ℕ)) (next : ℕ) : Type 0 where
@@ -25,11 +23,10 @@ pub record EndAt (s : List ℕ) (at : ℕ) (o : Found (List ℕ)) (next : ℕ) :
   pub fits : next ≢ at → (ns : List ℕ) × (o ≡ found ns (drop next s))
   pub unfit : next ≡ at → o ≡ missing
 
--- a key with its equals sign: whatever is read behind it is read at the offset, 0 where it doesn't stand there
-pub record KeyAt (key s rest : List ℕ) (next : ℕ) : Type 0 where
-  pub inside : next ≤ length s
-  pub fits : next ≢ 0 → (go : List ℕ → Found (List ℕ)) → past (key ++ (equals ∷ [])) go rest ≡ go (drop next s)
-  pub unfit : next ≡ 0 → (go : List ℕ → Found (List ℕ)) → past (key ++ (equals ∷ [])) go rest ≡ missing
+-- a key with its equals sign: whatever is read behind it is read at the offset, and nothing where it doesn't stand there
+abbrev pub KeyAt : List ℕ → List ℕ → List ℕ → Option ℕ → Type 0
+KeyAt key s rest None = (go : List ℕ → Found (List ℕ)) → past (key ++ (equals ∷ [])) go rest ≡ missing
+KeyAt key s rest (Some next) = (next ≤ length s) × ((go : List ℕ → Found (List ℕ)) → past (key ++ (equals ∷ [])) go rest ≡ go (drop next s))
 
 -- the fields that were found, and the rest of the text; nothing where they are missing
 abbrev pub fields_of : Found (List ℕ) → List ℕ

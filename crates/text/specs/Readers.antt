@@ -1,6 +1,6 @@
 -- "A reader steps from one line to the next inside the lent bytes."
 -- Assumes nothing.
-use Rattle.std.specs.Prelude.{◌≡◌, cond, List, ℕ, eqb, drop}
+use Rattle.std.specs.Prelude.{◌≡◌, cond, List, ℕ, Option, None, Some, eqb, drop}
 use Rattle.text.specs.declared.reader.Reader.{Reader}
 use Rattle.text.specs.declared.reader.Ends.{Ends}
 use Rattle.text.specs.Lines.{line}
@@ -21,6 +21,6 @@ pub record EndsAt (s : List ℕ) (at : ℕ) (one two : List ℕ) (width : ℕ) (
   pub first_is : EndAt s at (line one width (drop at s)) ends.first
   pub second_is : EndAt s ends.first (line two width (drop ends.first s)) ends.second
 
--- the offset that a step reached, 0 where it left the reader where it stood
-abbrev pub reached_of : ℕ → ℕ → ℕ
-reached_of before after = cond (eqb after before) 0 after
+-- the offset that a step reached, none where it left the reader where it stood
+abbrev pub reached_of : ℕ → ℕ → Option ℕ
+reached_of before after = cond (eqb after before) None (Some after)

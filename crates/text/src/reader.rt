@@ -50,18 +50,15 @@ fn step_taking<'a, 'k, 'w>(
     }
 }
 
-// The offset that a step reached, 0 where it left the reader where it stood.
-fn reached(before: usize, after: usize) -> usize
+// The offset that a step reached, none where it left the reader where it stood.
+fn reached(before: usize, after: usize) -> Option<usize>
     ensures { result ≡ reached_of before after }
 {
-    if after == before {
-        return 0;
-    }
-    after
+    if after == before { None } else { Some(after) }
 }
 
-// One step of a reader that stands at `at`: the offset behind the line, 0 where no line with that key and so many fields stands there.
-pub fn next_line(text: &[u8], at: usize, key: &[u8], width: usize) -> usize
+// One step of a reader that stands at `at`: the offset behind the line, if a line with that key and so many fields stands there.
+pub fn next_line(text: &[u8], at: usize, key: &[u8], width: usize) -> Option<usize>
     ensures { LineAt text.now (line key.now width (drop at text.now)) result }
 {
     let moved = step(reader_at(text, at), key, width);

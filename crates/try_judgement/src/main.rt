@@ -10,25 +10,22 @@ mod block;
 mod change;
 mod line;
 
+use block::Block;
 use std::io;
 use std::io::Read;
 
 // A line for every month behind April: April is taken, and then what the month changes.
-fn months(rt: &HostRuntime, text: &[u8], words: &mut [u64]) -> io::Result<()> {
-    let mut at = change::changes(text, 0, words) + 1;
-    while at < text.len() {
-        change::changes(text, 0, words);
-        let name = change::name_end(text, at);
-        let end = change::changes(text, name, words);
-        line::month_line(rt, &text[at..name], words)?;
-        at = end + 1;
-    }
-    Ok(())
-}
-
 fn main(rt: HostRuntime) -> io::Result<()> {
     let mut text = Vec::new(rt.alloc());
     rt.stdin().read_to_end(&mut text)?;
-    let mut words = [0u64; block::WORDS];
-    months(&rt, &text, &mut words)
+    let mut block = Block::new(rt.alloc())?;
+    let mut rest = change::behind_first(change::changes(rt.alloc(), &text, &mut block)?);
+    while !rest.is_empty() {
+        change::changes(rt.alloc(), &text, &mut block)?;
+        let (name, changed) = rest.split_at(change::name_length(rest));
+        let end = change::changes(rt.alloc(), changed, &mut block)?;
+        line::month_line(&rt, name, &block)?;
+        rest = change::behind_first(end);
+    }
+    Ok(())
 }

@@ -6,98 +6,73 @@
 // are all 0: as many rows as there may be, and one more. `lent=` reads the bytes as a text into such tables, of which so many words
 // are looked at: tables that are too short. `write=` has how many bytes are lent for the text of tables that are all 0: tables that
 // are not whole rows, or have a row too many.
-ghost use Rattle.std.specs.Prelude.{◌≤◌, ◌<◌, length, IfOk};
+ghost use Rattle.std.specs.Prelude.{◌≤◌, ◌<◌, length, IfOk, IfSome};
 
 use crate::{case, marks, writes};
 use std::io;
 use tables::TABLES;
-
-// The place of the line feed that ends the line at `from`, or the end.
-fn line_end(cases: &[u8], from: usize) -> usize
-    requires { from ≤ length cases.now }
-    ensures { (from ≤ result) × (result ≤ length cases.now) }
-{
-    let mut i = from;
-    while i < cases.len() {
-        if cases[i] == b'\n' {
-            return i;
-        }
-        i += 1;
-    }
-    i
-}
-
-// So many numbers of the line with a key at `at`, and the place behind the line, 0 where there is none.
-fn take(cases: &[u8], at: usize, key: &[u8], count: usize, numbers: &mut [u64]) -> usize
-    requires { count ≤ length numbers.old }
-    ensures { result ≤ length cases.now }
-{
-    let next = text::reader::next_line(cases, at, key, count);
-    if next == 0 {
-        return 0;
-    }
-    text::reader::take_next_line(cases, at, key, count, numbers, 0);
-    next
-}
+use text::reader::{next_line, take_next_line};
 
 // How many numbers a case begins with: one for each table, and two more.
 const NUMBERS: usize = TABLES + 2;
 
+// The numbers of the line with a key at `at`, as many as are lent, and the place behind the line; none where it is not there.
+fn take(cases: &[u8], at: usize, key: &[u8], numbers: &mut [u64]) -> Option<usize>
+    ensures { IfSome result (λ next. next ≤ length cases.now) }
+{
+    let width = numbers.len();
+    let next = next_line(cases, at, key, width)?;
+    take_next_line(cases, at, key, width, numbers, 0);
+    Some(next)
+}
+
 // The last seven of a case's numbers, one for each table.
 fn sizes(numbers: [u64; NUMBERS]) -> [usize; TABLES] {
-    [
-        numbers[2] as usize,
-        numbers[3] as usize,
-        numbers[4] as usize,
-        numbers[5] as usize,
-        numbers[6] as usize,
-        numbers[7] as usize,
-        numbers[8] as usize,
-    ]
+    let mut sizes = [0; TABLES];
+    for (size, number) in sizes.iter_mut().zip(&numbers[2..]) {
+        *size = *number as usize;
+    }
+    sizes
 }
 
-// A case of each kind, with its name, and the place behind it; 0 where another kind of case stands there.
-fn bent(rt: &HostRuntime, cases: &[u8], name: &[u8], at: usize) -> io::Result<usize> {
-    let mut numbers = [0u64; 3];
-    let from = take(cases, at, b"bent", 3, &mut numbers);
-    if from == 0 {
-        return Ok(0);
-    }
+// A case of each kind, with its name, and the place behind it; none where another kind of case stands there.
+fn bent(rt: &HostRuntime, cases: &[u8], name: &[u8], at: usize) -> io::Result<Option<usize>> {
+    let mut numbers = [0; 3];
+    let Some(from) = take(cases, at, b"bent", &mut numbers) else {
+        return Ok(None);
+    };
     let piece = marks::part(cases, from, numbers[0] as usize);
     case::bent(rt, name, numbers[1] as usize, numbers[2] as usize, piece)?;
-    Ok(from + piece.len() + 1)
+    Ok(Some(from + piece.len() + 1))
 }
 
-fn zeros(rt: &HostRuntime, cases: &[u8], name: &[u8], at: usize) -> io::Result<usize> {
-    let mut numbers = [0u64; NUMBERS];
-    let from = take(cases, at, b"zeros", NUMBERS, &mut numbers);
-    if from == 0 {
-        return Ok(0);
-    }
+fn zeros(rt: &HostRuntime, cases: &[u8], name: &[u8], at: usize) -> io::Result<Option<usize>> {
+    let mut numbers = [0; NUMBERS];
+    let Some(from) = take(cases, at, b"zeros", &mut numbers) else {
+        return Ok(None);
+    };
     let piece = marks::part(cases, from, numbers[0] as usize);
     writes::read_zeros(rt, name, sizes(numbers), numbers[1] as usize, piece)?;
-    Ok(from + piece.len() + 1)
+    Ok(Some(from + piece.len() + 1))
 }
 
-fn lent(rt: &HostRuntime, cases: &[u8], name: &[u8], at: usize) -> io::Result<usize> {
-    let mut numbers = [0u64; NUMBERS];
-    let from = take(cases, at, b"lent", NUMBERS, &mut numbers);
-    if from == 0 {
-        return Ok(0);
-    }
+fn lent(rt: &HostRuntime, cases: &[u8], name: &[u8], at: usize) -> io::Result<Option<usize>> {
+    let mut numbers = [0; NUMBERS];
+    let Some(from) = take(cases, at, b"lent", &mut numbers) else {
+        return Ok(None);
+    };
     let piece = marks::part(cases, from, numbers[0] as usize);
     case::read_into(rt, name, piece, sizes(numbers), numbers[1] as usize)?;
-    Ok(from + piece.len() + 1)
+    Ok(Some(from + piece.len() + 1))
 }
 
-fn write(rt: &HostRuntime, cases: &[u8], name: &[u8], at: usize) -> io::Result<usize> {
-    let mut numbers = [0u64; NUMBERS];
-    let from = take(cases, at, b"write", NUMBERS, &mut numbers);
-    if from == 0 {
-        return Ok(0);
-    }
+fn write(rt: &HostRuntime, cases: &[u8], name: &[u8], at: usize) -> io::Result<Option<usize>> {
+    let mut numbers = [0; NUMBERS];
+    let Some(from) = take(cases, at, b"write", &mut numbers) else {
+        return Ok(None);
+    };
     writes::write_zeros(rt, name, sizes(numbers), numbers[1] as usize)?;
-    Ok(from + 1)
+    Ok(Some(from + 1))
 }
 
 // The case at `from`, and the place behind it.
@@ -105,12 +80,12 @@ fn show(rt: &HostRuntime, cases: &[u8], from: usize) -> io::Result<usize>
     requires { from < length cases.now }
     ensures { IfOk result (λ next. from < next) }
 {
-    let end = line_end(cases, from);
-    let name = marks::part(cases, from, end - from);
+    let end = from + memchr::memchr(b'\n', &cases[from..]).unwrap_or(cases.len() - from);
+    let name = &cases[from..end];
     let at = end + 1;
-    let some = marks::most(bent(rt, cases, name, at)?, zeros(rt, cases, name, at)?);
-    let others = marks::most(lent(rt, cases, name, at)?, write(rt, cases, name, at)?);
-    Ok(marks::most(from + 1, marks::most(some, others)))
+    let some = bent(rt, cases, name, at)?.or(zeros(rt, cases, name, at)?);
+    let others = lent(rt, cases, name, at)?.or(write(rt, cases, name, at)?);
+    Ok(some.or(others).unwrap_or(0).max(from + 1))
 }
 
 pub(crate) fn run(rt: &HostRuntime, cases: &[u8]) -> io::Result<()> {

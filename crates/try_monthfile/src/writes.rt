@@ -1,10 +1,9 @@
 // Writing: tables of zeros, case S into bytes that are too few and just enough, and the largest head.
 use crate::case::{FULL, read_into};
 use crate::{line, marks};
-use filewrite::Written;
+use answer::Refused;
 use std::io;
-use tables::{Head, TABLES};
-use text::line::put_bytes;
+use tables::{HEADS, Head, TABLES};
 
 const ZONES: [u64; 2] = [1, 365_000];
 
@@ -30,21 +29,14 @@ const HEAD: Head = Head {
 };
 
 // What a write into marked bytes answers, and how many of them it changed.
-fn show(rt: &HostRuntime, name: &[u8], written: Written, out: &[u8]) -> io::Result<()> {
-    line::written(rt, name, written)?;
-    line::count(rt, b" bytes ", marks::changed_bytes(out))?;
-    line::text(rt, b"\n")
-}
-
-fn write_and_show<'a>(
+fn show(
     rt: &HostRuntime,
     name: &[u8],
-    head: Head,
-    tables: [&'a [u64]; TABLES],
-    out: &mut [u8],
+    written: Result<usize, Refused>,
+    out: &[u8],
 ) -> io::Result<()> {
-    let written = filewrite::write(head, tables, out);
-    show(rt, name, written, out)
+    line::written(rt, name, written)?;
+    println!(rt; " bytes {}", marks::changed(out, marks::BYTE))
 }
 
 // A month that is written into so many lent bytes, 256 at most.
@@ -55,19 +47,21 @@ fn write_into<'a>(
     tables: [&'a [u64]; TABLES],
     bytes: usize,
 ) -> io::Result<()> {
-    let mut out = [marks::BYTE; 256];
-    let size = marks::least(256, bytes);
-    write_and_show(rt, name, head, tables, &mut out[..size])
+    let mut out = marks::bytes(rt.alloc(), bytes, 256)?;
+    let written = filewrite::write(head, tables, &mut out);
+    show(rt, name, written, &out)
 }
 
 // Tables of so many of some words, by the table's place, written to the front of lent bytes.
-fn write_fronts<'a>(words: &'a [u64], sizes: [usize; TABLES], out: &mut [u8]) -> Written {
+fn write_fronts<'a>(
+    words: &'a [u64],
+    sizes: [usize; TABLES],
+    out: &mut [u8],
+) -> Result<usize, Refused> {
     let mut tables = [words; TABLES];
-    let mut k = 0;
-    while k < TABLES {
-        let end = marks::least(words.len(), sizes[k]);
+    for (k, size) in sizes.iter().enumerate() {
+        let end = words.len().min(*size);
         tables[k] = &words[..end];
-        k += 1;
     }
     filewrite::write(HEAD, tables, out)
 }
@@ -80,12 +74,11 @@ pub(crate) fn read_zeros(
     at: usize,
     piece: &[u8],
 ) -> io::Result<()> {
-    let mut text = [0u8; 32_768];
-    let start = marks::least(32_384, at);
-    let size = marks::least(384, piece.len());
-    write_fronts(&[0u64; 4_960], sizes, &mut text);
-    put_bytes(&piece[..size], &mut text, start);
-    read_into(rt, name, &text[..start + size], FULL, 4_961)
+    let mut text = vec![in rt.alloc(); 0; 32_768]?;
+    let _written = write_fronts(&[0u64; 4_960], sizes, &mut text);
+    text.truncate(at.min(32_384));
+    text.extend_from_slice(marks::part(piece, 0, 384))?;
+    read_into(rt, name, &text, FULL, 4_961)
 }
 
 // Tables of so many zeros, by the table's place, written into so many lent bytes.
@@ -95,19 +88,9 @@ pub(crate) fn write_zeros(
     sizes: [usize; TABLES],
     bytes: usize,
 ) -> io::Result<()> {
-    let mut out = [marks::BYTE; 32_768];
-    let size = marks::least(32_768, bytes);
-    write_zeros_into(rt, name, sizes, &mut out[..size])
-}
-
-fn write_zeros_into(
-    rt: &HostRuntime,
-    name: &[u8],
-    sizes: [usize; TABLES],
-    out: &mut [u8],
-) -> io::Result<()> {
-    let written = write_fronts(&[0u64; 4_965], sizes, out);
-    show(rt, name, written, out)
+    let mut out = marks::bytes(rt.alloc(), bytes, 32_768)?;
+    let written = write_fronts(&[0u64; 4_965], sizes, &mut out);
+    show(rt, name, written, &out)
 }
 
 fn room<'a>(rt: &HostRuntime, case: [&'a [u64]; TABLES]) -> io::Result<()> {
@@ -119,16 +102,7 @@ fn room<'a>(rt: &HostRuntime, case: [&'a [u64]; TABLES]) -> io::Result<()> {
 
 // No range is judged: the head's seven numbers are 2^64-1, 132 bytes more than in a month with case S's head and no rows.
 fn large_head<'a>(rt: &HostRuntime, none: &'a [u64]) -> io::Result<()> {
-    let most = 18_446_744_073_709_551_615;
-    let head = Head {
-        month: most,
-        days: most,
-        nonzone: most,
-        daily: most,
-        weekly: most,
-        monthly: most,
-        weekday: most,
-    };
+    let head = Head::from([u64::MAX; HEADS]);
     let tables = [none; TABLES];
     write_into(
         rt,

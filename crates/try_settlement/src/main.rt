@@ -8,63 +8,57 @@
 // has what must come by the paper, and the gate holds one to the other.
 #![tactic(auto)]
 
-ghost use Rattle.std.specs.Prelude.{◌+◌, ◌≤◌, ◌<◌, min, length, IfOk};
+ghost use Rattle.std.specs.Prelude.{◌≤◌, ◌<◌, length, IfOk};
 
 use std::io;
 use std::io::Read;
 
-// The place behind the line that starts at `from`, at most the end.
-fn behind_line(cases: &[u8], from: usize) -> usize
-    requires { from ≤ length cases.now }
-    ensures { (min (from + 1) (length cases.now) ≤ result) × (result ≤ length cases.now) }
+// How many bytes the first line has, with its line feed.
+fn line_length(cases: &[u8]) -> usize
+    ensures within { result ≤ length cases.now }
+    ensures some { 0 < length cases.now → 0 < result }
 {
-    match memchr::memchr(b'\n', &cases[from..]) {
-        Some(at) => from + at + 1,
+    match memchr::memchr(b'\n', cases) {
+        Some(at) => at + 1,
         None => cases.len(),
     }
 }
 
-// The place behind the month file that starts at `from`: that of the next empty line, or the end.
-fn behind_file(cases: &[u8], from: usize) -> usize
-    requires { from ≤ length cases.now }
-    ensures { (from ≤ result) × (result ≤ length cases.now) }
+// How many bytes stand in front of the first empty line.
+fn file_length(cases: &[u8]) -> usize
+    ensures { result ≤ length cases.now }
 {
-    let mut at = from;
+    let mut at = 0;
     while at < cases.len() {
         if cases[at] == b'\n' {
             return at;
         }
-        at = behind_line(cases, at);
+        at += line_length(&cases[at..]);
     }
     at
 }
 
-// Writes the name of the case that starts at `from` and the statement of its month, and answers the place behind the case.
-fn show(rt: &HostRuntime, cases: &[u8], from: usize) -> io::Result<usize>
-    requires { from < length cases.now }
-    ensures { IfOk result (λ next. (from < next) × (next ≤ length cases.now)) }
+// Writes the name of the first case and the statement of its month, and answers what stands behind the case.
+fn show<'a>(rt: &HostRuntime, cases: &'a [u8]) -> io::Result<&'a [u8]>
+    requires { 0 < length cases.now }
+    ensures { IfOk result (λ rest. length rest.now < length cases.now) }
 {
-    let start = behind_line(cases, from);
-    let end = behind_file(cases, start);
-    rt.write_all(&cases[from..start])?;
+    let (name, rest) = cases.split_at(line_length(cases));
+    let (file, rest) = rest.split_at(file_length(rest));
+    rt.write_all(name)?;
     let mut out = [0u8; 1_024];
-    let shown = statement_text::statement(&cases[start..end], &mut out);
-    let length = shown.length;
-    rt.write_all(&out[..length])?;
-    Ok(behind_line(cases, end))
-}
-
-// Every case in turn.
-fn show_all(rt: &HostRuntime, cases: &[u8]) -> io::Result<()> {
-    let mut at = 0;
-    while at < cases.len() {
-        at = show(rt, cases, at)?;
+    if let Ok(length) = statement_text::statement(file, &mut out) {
+        rt.write_all(&out[..length])?;
     }
-    Ok(())
+    Ok(&rest[line_length(rest)..])
 }
 
 fn main(rt: HostRuntime) -> io::Result<()> {
     let mut input = Vec::new(rt.alloc());
     rt.stdin().read_to_end(&mut input)?;
-    show_all(&rt, &input)
+    let mut rest: &[u8] = &input;
+    while !rest.is_empty() {
+        rest = show(&rt, rest)?;
+    }
+    Ok(())
 }

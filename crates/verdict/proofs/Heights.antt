@@ -14,12 +14,16 @@ use lib.Dec.{leb}
 use lib.ListN.{length}
 use borrow.Author.Tests.{le-leb, leb-true}
 use Rattle.lists.specs.Sums.{sum_to, at, total, every}
-use Rattle.lists.proofs.Sums.{last_or_below, sum_tight, sum_mul, every_at, every_from}
+use Rattle.lists.proofs.Sums.{last_or_below, le_sum, sum_tight, sum_mul, every_at, every_from}
 use Rattle.lists.proofs.Ranks.{lt_or_le}
 use Rattle.answer.proofs.Turns.{zero_or_not}
 use Rattle.closeness.specs.Closeness.{level}
 use Rattle.verdict.specs.Steps.{height}
 use Rattle.division.specs.Refused.{FineSize}
+
+-- no entry is above what all add up to
+pub entry_within : (l : List ℕ) (i : ℕ) → i < length l → at l i ≤ total l
+entry_within l i b = le_sum (length l) (at l) i b
 
 -- the largest of f 0, .. f (n − 1), 0 where there is none, and the smallest, at most c
 unfoldable pub most : ℕ → (ℕ → ℕ) → ℕ
@@ -78,6 +82,9 @@ pub least_le : (c n : ℕ) (f : ℕ → ℕ) → least c n f ≤ c
 unfolding least
 least_le c zero f = omega arith
 least_le c (suc n) f = le_trans (min-le_left (least c n f) (f n)) (least_le c n f)
+
+-- what a walk over the amounts uses of them
+pub ruleset heights = (entry_within, most_none, most_suc, least_none, least_suc, least_le)
 
 -- the highest is at most w above the lowest exactly where each is at most w above each other
 spread_all : (c n w : ℕ) (f : ℕ → ℕ) → most n f ≤ least c n f + w → (i j : ℕ) → i < n → j < n → f i ≤ f j + w

@@ -12,9 +12,8 @@ use Rattle.answer.specs.Numbers.{COUNT, BASE}
 use Rattle.closeness.specs.Closeness.{Closest}
 use Rattle.division.specs.Limits.{most_weights}
 use Rattle.division.proofs.Laws.{zero_or_within}
-use Rattle.verdict.specs.Check.{verdict, yes, no, meaning}
+use Rattle.verdict.specs.Check.{verdict, yes, no, meaning, Refused}
 use Rattle.verdict.specs.Refused.{FineCheck, CheckRefused}
-use Rattle.verdict.specs.declared.Verdict.TheVariants.{Refused}
 use Rattle.verdict.proofs.Verdicts as verdicts
 use Rattle.verdict.proofs.Reasons as reasons
 use Rattle.verdict.proofs.Sayings as sayings

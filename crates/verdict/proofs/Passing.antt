@@ -18,7 +18,6 @@ use Rattle.closeness.specs.Closeness.{apart, distance, squares, Closest, level}
 use Rattle.closeness.proofs.Promises.{level_closest, closest_level, level_within_a_cent}
 use Rattle.division.specs.Limits.{most_weights, pot_limit, weight_limit, divide_refusal}
 use Rattle.division.specs.Shares.{shares, Divided}
-use Rattle.division.specs.declared.Division.{Division}
 use Rattle.division.proofs.Laws as division
 use Rattle.verdict.specs.Check.{check_refusal, passes, verdict, yes, no, neither, meaning}
 use Rattle.verdict.specs.Refused.{FineCheck, CheckRefused}
@@ -158,8 +157,8 @@ divisions_pass pot weights room e =
     (zero_or_not (total weights)))
 
 -- the words that an accepted division leaves first are the shares
-pub written_divisions_pass : (pot : ℕ) (weights before after : List ℕ) (r : Division) → Divided pot weights before after r
-    → r.answer.number ≡ 0 → (meaning (verdict pot weights (take (length weights) after))).says ≡ yes
+pub written_divisions_pass : (pot : ℕ) (weights before after : List ℕ) (r : ℕ) → Divided pot weights before after r
+    → r ≡ 0 → (meaning (verdict pot weights (take (length weights) after))).says ≡ yes
 written_divisions_pass pot weights before after r d e =
     let accepted : divide_refusal pot weights (length before) ≡ 0 = sym d.number ∙ e in
     let first : take (length weights) after ≡ shares pot weights =

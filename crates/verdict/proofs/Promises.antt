@@ -12,7 +12,6 @@ use Rattle.lists.specs.Sums.{at, total}
 use Rattle.closeness.specs.Closeness.{distance, Closest}
 use Rattle.division.specs.Limits.{most_weights, pot_limit, weight_limit, divide_refusal}
 use Rattle.division.specs.Shares.{shares, Divided}
-use Rattle.division.specs.declared.Division.{Division}
 use Rattle.verdict.specs.Check.{check_refusal, verdict, yes, no, neither, meaning, verdict_answer}
 use Rattle.verdict.specs.Refused.{FineCheck, CheckRefused}
 use Rattle.verdict.proofs.Reasons as reasons
@@ -83,8 +82,8 @@ pub divisions_pass : (pot : ℕ) (weights : List ℕ) (room : ℕ) → divide_re
 divisions_pass = passing.divisions_pass
 
 -- .. as `divide` leaves it in the first of the lent words
-pub written_divisions_pass : (pot : ℕ) (weights before after : List ℕ) (r : Division) → Divided pot weights before after r
-    → r.answer.number ≡ 0 → (meaning (verdict pot weights (take (length weights) after))).says ≡ yes
+pub written_divisions_pass : (pot : ℕ) (weights before after : List ℕ) (r : ℕ) → Divided pot weights before after r
+    → r ≡ 0 → (meaning (verdict pot weights (take (length weights) after))).says ≡ yes
 written_divisions_pass = passing.written_divisions_pass
 
 -- "For W and P both zero it says yes exactly when all amounts are zero"

@@ -8,8 +8,7 @@ use Prim.Native.Nat.{ℕ}
 use native.Mathlib.Omega.{arith}
 use Rattle.lists.proofs.Ranks.{true_or_false}
 use Rattle.answer.proofs.Turns.{zero_or_not}
-use Rattle.verdict.specs.Check.{check_refusal, passes, verdict, yes, no, neither, meaning}
-use Rattle.verdict.specs.declared.Verdict.TheVariants.{Yes, No}
+use Rattle.verdict.specs.Check.{check_refusal, passes, verdict, yes, no, neither, meaning, Yes, No}
 use Rattle.verdict.proofs.Verdicts as verdicts
 
 module _ (pot : ℕ) (weights amounts : List ℕ) where

@@ -4,16 +4,14 @@ use mathlib.Core.Path.{◌≡◌, refl, sym, ap, ◌∙◌}
 use mathlib.Core.Logic.{⊎_elim, ◌≢◌}
 use mathlib.Core.Bool.{Bool, true, false, cond}
 use mathlib.Core.List.{List}
-use Prim.Native.Nat.{ℕ, ◌≤◌, ◌<◌, min}
-use native.Mathlib.Omega.{arith}
+use Prim.Native.Nat.{ℕ, ◌≤◌, ◌<◌}
 use lib.ListN.{length}
 use borrow.Author.Tests.{lt-ltb, le-ltb, eq-eqb, ne_eqb}
 use Rattle.lists.specs.Sums.{total}
 use Rattle.answer.proofs.Turns.{zero_or_not}
 use Rattle.closeness.specs.Closeness.{level}
-use Rattle.division.specs.Limits.{most_weights, pot_limit, size_refusal}
-use Rattle.verdict.specs.Check.{check_refusal, passes, verdict, meaning}
-use Rattle.verdict.specs.declared.Verdict.TheVariants.{Yes, No, Refused}
+use Rattle.division.specs.Limits.{most_weights, size_refusal}
+use Rattle.verdict.specs.Check.{check_refusal, passes, verdict, meaning, Yes, No, Refused}
 
 module _ (pot : ℕ) (weights amounts : List ℕ) where
   pub too_many : most_weights < length weights → check_refusal pot weights amounts ≡ 1
@@ -58,10 +56,3 @@ module _ (pot : ℕ) (weights amounts : List ℕ) where
   pub right_sum : total amounts ≡ pot → passes pot weights amounts ≡ level pot weights amounts
   unfolding passes
   right_sum e = rw (eq-eqb (total amounts) pot e)
-
--- a sum that stops at one above the limit tells whether the amounts add up to a pot within it
-pub capped_pot : (pot sum capped : ℕ) → pot ≤ pot_limit → capped ≡ min sum 100_000_000_001 → capped ≡ pot → sum ≡ pot
-capped_pot pot sum capped fits e same = omega arith
-
-pub capped_other : (pot sum capped : ℕ) → pot ≤ pot_limit → capped ≡ min sum 100_000_000_001 → (capped ≡ pot → ⊥) → sum ≡ pot → ⊥
-capped_other pot sum capped fits e other same = other (omega arith)

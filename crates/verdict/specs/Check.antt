@@ -1,14 +1,13 @@
 -- The check of a division that anyone hands in.
 -- Assumes nothing.
-use Rattle.std.specs.Prelude.{ℕ, Bool, ◌&&◌, ◌||◌, not, cond, List, ltb, eqb, length}
+use Rattle.std.specs.Prelude.{◌≡◌, ℕ, Bool, true, false, Result, Ok, Err, ◌&&◌, ◌||◌, not, cond, List, ltb, eqb, length}
 use Rattle.lists.specs.Sums.{total}
 use Rattle.answer.specs.declared.Answer.{Answer}
-use Rattle.answer.specs.Numbers.{COUNT, HEAD}
+use Rattle.answer.specs.declared.Refusal.{Refusal}
+use Rattle.answer.specs.Numbers.{COUNT, HEAD, refusal_number}
 use Rattle.answer.specs.Turns.{look}
 use Rattle.closeness.specs.Closeness.{level}
 use Rattle.division.specs.Limits.{most_weights, size_refusal}
-use Rattle.verdict.specs.declared.Verdict.{Verdict}
-use Rattle.verdict.specs.declared.Verdict.TheVariants.{Yes, No, Refused}
 
 -- "the check at COUNT, BIG, BASE": more than 64 weights; weights and amounts differ in number
 unfoldable pub check_refusal : ℕ → List ℕ → List ℕ → ℕ
@@ -21,6 +20,12 @@ check_refusal pot weights amounts =
 -- W and P both zero it says yes exactly when all amounts are zero" is then in the sum)
 unfoldable pub passes : ℕ → List ℕ → List ℕ → Bool
 passes pot weights amounts = eqb (total amounts) pot && level pot weights amounts
+
+-- a list of amounts is a closest division, it is not, or the check is refused with a number
+pub data Verdict : Type 0 where
+  Yes : Verdict
+  No : Verdict
+  Refused : ℕ → Verdict
 
 -- what the check answers: "A refused check says neither yes nor no"
 unfoldable pub verdict : ℕ → List ℕ → List ℕ → Verdict
@@ -49,3 +54,13 @@ meaning (Refused number) = record { says = neither; number = number }
 -- "The answer is number, table, row": that of each case; "table and row are 0"
 abbrev pub verdict_answer : Verdict → Answer
 verdict_answer said = record { number = (meaning said).number; table = HEAD; row = 0 }
+
+-- the verdict that a result stands for
+abbrev pub verdict_of : Result Bool Refusal → Verdict
+verdict_of (Ok true) = Yes
+verdict_of (Ok false) = No
+verdict_of (Err r) = Refused (refusal_number r)
+
+-- the contract of `check`
+abbrev pub Checked : ℕ → List ℕ → List ℕ → Result Bool Refusal → Type 0
+Checked pot weights amounts r = verdict_of r ≡ verdict pot weights amounts

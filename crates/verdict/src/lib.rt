@@ -3,47 +3,30 @@
 // right, `proofs/Promises.antt` what follows from it, and `proofs/Laws.antt` what the crates above may cite.
 #![tactic(auto)]
 
-ghost use Rattle.std.specs.Prelude.{◌≡◌};
-ghost use Rattle.verdict.specs.Check.{verdict};
+ghost use Rattle.verdict.specs.Check.{Checked};
 
-use answer::{ACCEPTED, COUNT};
+use answer::Refusal;
 use division::limits;
 
 mod spread;
-
-// What `check` says of a list of amounts: it is a closest division, it is not, or the refusal's number.
-#[derive(Drop)]
-pub enum Verdict {
-    Yes,
-    No,
-    Refused(u64),
-}
 
 // Says whether the amounts are a closest division of the pot by the weights. Refuses with COUNT (more than 64 weights, or not
 // as many amounts as weights), BIG and BASE, in this order. Amounts may be of any size.
 // What yes means, for weights that add up to more than zero, is the theorem `yes_means_closest` of `proofs/Promises.antt`: they add
 // up to the pot, and no list of as many whole numbers with that sum lies closer to the exact shares.
-pub fn check(pot: u64, weights: &[u64], amounts: &[u64]) -> Verdict
-    ensures { result ≡ verdict pot weights.now amounts.now }
+#[tactic(auto, using(division::proofs::Laws::capped_size, division::proofs::Laws::sized), unfolding(crate::specs::Check::verdict, crate::specs::Check::check_refusal, crate::specs::Check::passes))]
+pub fn check(pot: u64, weights: &[u64], amounts: &[u64]) -> Result<bool, Refusal>
+    ensures { Checked pot weights.now amounts.now result }
 {
     let count = weights.len();
-    if limits::MOST_WEIGHTS < count {
-        return Verdict::Refused(COUNT);
-    }
-    if amounts.len() != count {
-        return Verdict::Refused(COUNT);
+    if limits::MOST_WEIGHTS < count || amounts.len() != count {
+        return Err(Refusal::Count);
     }
     let sum = lists::sum_capped(weights, limits::WEIGHT_LIMIT + 1);
-    let refusal = limits::size_refusal(pot, sum);
-    if refusal != ACCEPTED {
-        return Verdict::Refused(refusal);
-    }
+    limits::size_refusal(pot, sum)?;
     let handed_out = lists::sum_capped(amounts, limits::POT_LIMIT + 1);
     if handed_out != pot {
-        return Verdict::No;
+        return Ok(false);
     }
-    if spread::is_level(pot, weights, sum, amounts) {
-        return Verdict::Yes;
-    }
-    Verdict::No
+    Ok(spread::is_level(pot, weights, sum, amounts))
 }

@@ -3,7 +3,8 @@
 ghost use Rattle.std.specs.Prelude.{◌≡◌, ◌+◌, ◌-◌, ◌*◌, ◌≤◌, ◌<◌, min, length};
 ghost use Rattle.lists.specs.Sums.{total};
 ghost use Rattle.closeness.specs.Closeness.{level};
-ghost use Rattle.division.specs.Limits.{pot_limit, weight_limit, size_refusal};
+ghost use Rattle.division.specs.Limits.{pot_limit, weight_limit};
+ghost use Rattle.division.specs.Refused.{FineSize};
 ghost use Rattle.verdict.specs.Steps.{wide_value, WideProduct};
 
 // A number in two words: `high` times 2^19, and `low` below 2^19.
@@ -43,25 +44,24 @@ fn excess(number: Wide, other: Wide, cap: u64) -> u64
     if upper < lower {
         return 0;
     }
-    lists::smaller(upper - lower, cap)
+    cap.min(upper - lower)
 }
 
 // Whether no amount stands more than a cent higher over its exact share than another, for amounts that add up to the pot.
+#[tactic(auto, using(crate::proofs::Heights::heights))]
 pub fn is_level(pot: u64, weights: &[u64], sum: u64, amounts: &[u64]) -> bool
-    requires sum_value { (sum ≡ total weights.now) × (size_refusal pot sum ≡ 0) }
+    requires sum_value { (sum ≡ total weights.now) × FineSize pot sum }
     requires weights_len { (length weights.now ≡ length amounts.now) × (total amounts.now ≡ pot) }
     ensures { result ≡ level pot weights.now amounts.now }
 {
     let mut highest: u64 = 0;
     let mut lowest = 2 * sum;
-    let mut i = 0;
-    while i < weights.len() {
+    for (i, &weight) in weights.iter().enumerate() {
         let above = product(sum, amounts[i] + 1);
-        let exact = product(weights[i], pot);
+        let exact = product(weight, pot);
         let height = excess(above, exact, 2 * sum);
-        highest = lists::larger(highest, height);
-        lowest = lists::smaller(lowest, height);
-        i += 1;
+        highest = highest.max(height);
+        lowest = lowest.min(height);
     }
     highest <= lowest + sum
 }

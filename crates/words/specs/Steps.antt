@@ -1,7 +1,7 @@
 -- What the functions between bytes and numbers say among themselves. A reader who wants to know what reading and writing promise
 -- needs none of it.
 -- Assumes nothing.
-use Rattle.std.specs.Prelude.{ℕ, zero, suc, ◌+◌, ◌*◌, ◌/◌, ◌%◌, List, set}
+use Rattle.std.specs.Prelude.{ℕ, ◌*◌, ◌/◌, ◌%◌, List}
 use Rattle.lists.specs.Sums.{at}
 use Rattle.words.specs.Words.{word_bytes, number_from, byte_of}
 
@@ -12,12 +12,3 @@ number_in bytes i = number_from bytes (word_bytes * i)
 -- byte j of all bytes of a list of numbers
 abbrev pub byte_at : List ℕ → ℕ → ℕ
 byte_at ns j = byte_of (at ns (j / word_bytes)) (j % word_bytes)
-
--- lent bytes once the first n bytes of a number are stored from a place on
-unfoldable pub stored_to : ℕ → List ℕ → ℕ → ℕ → List ℕ
-stored_to zero bytes place number = bytes
-stored_to (suc n) bytes place number = set (stored_to n bytes place number) (place + n) (byte_of number n)
-
--- lent bytes once a number is stored from a place on
-abbrev pub number_stored : List ℕ → ℕ → ℕ → List ℕ
-number_stored bytes place number = stored_to word_bytes bytes place number

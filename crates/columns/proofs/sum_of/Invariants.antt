@@ -1,14 +1,9 @@
 -- `columns::sum_of` meets its contract: the rows passed are added up.
 -- Assumes nothing.
-use Prim.Native.Nat.{◌-◌}
-use Rattle.tables.specs.Shape.{rows}
+use mathlib.Core.Path.{◌≡◌}
+use Rattle.lists.specs.Sums.{sum_where}
 use Rattle.tables.specs.Columns.{entry}
-use Rattle.columns.proofs.Adding.{Added}
 use Rattle.columns.proofs.sum_of.Given as goal
 
 abbrev pub invariant-loop-i : goal.invariant-loop-i
-invariant-loop-i l =
-    Added (rows l.table l.words) (entry l.table 0 l.words) (entry l.table l.column l.words) l.number l.i l.sum
-
-abbrev pub decreases-loop-i : goal.decreases-loop-i
-decreases-loop-i l = l.count - l.i
+invariant-loop-i l = l.sum ≡ sum_where l.i (entry l.table 0 l.words) (entry l.table l.column l.words) l.number

@@ -2,11 +2,9 @@
 -- Assumes nothing.
 use mathlib.Core.Path.{◌≡◌, ap, ap₂, ◌∙◌, subst}
 use Prim.Native.Nat.{ℕ, ◌+◌}
-use native.Mathlib.Omega.{arith}
 use lib.Dec.{eqb}
 use mir.Val.{bool_byte}
 use Rattle.lists.specs.Sums.{bit}
-use Rattle.lists.proofs.Sums.{bit_le}
 use Rattle.cents.proofs.Bits.{bit_of}
 use Rattle.division.specs.Limits.{size_refusal}
 use Rattle.division.specs.Refused.{FineSize}
@@ -21,26 +19,12 @@ size_is pot {all = all} e fine = sized pot all (subst (λ w. size_refusal pot w 
 whole_is : {sum all : ℕ} → sum ≡ all → sum + bool_byte (eqb sum 0) ≡ all + bit (eqb all 0)
 whole_is {sum = sum} e = ap₂ ◌+◌ e (bit_of (eqb sum 0) ∙ ap (λ w. bit (eqb w 0)) e)
 
-pub overflow_cast-whole : goal.overflow_cast-whole
-overflow_cast-whole c = tt
-
-pub overflow_add-whole : goal.overflow_add-whole
-overflow_add-whole c =
-    let size_of = size_is c.args.pot c.requires.sum_value.0 c.requires.sum_value.1 in
-    omega (arith, size_of.weights_fit, c.requires.sum_value.0, bit_of (eqb c.args.sum 0), bit_le (eqb c.args.sum 0))
-
-pub deal-requires : goal.deal-requires
-deal-requires c =
-    let size_of = size_is c.args.pot c.requires.sum_value.0 c.requires.sum_value.1 in
-    let whole_of = whole_is c.requires.sum_value.0 in
-    record {
-      base = base_of c.args.pot c.args.weights.now _ size_of whole_of;
-      weights_len_bound = c.requires.weights_len_bound;
-    }
+pub deal-requires-clause-base : goal.deal-requires-clause-base
+deal-requires-clause-base c =
+    base_of c.args.pot c.args.weights.now _ (size_is c.args.pot c.requires.sum_value.0 c.requires.sum_value.1) (whole_is c.requires.sum_value.0)
 
 pub returns : goal.returns
 returns c =
-    let size_of = size_is c.args.pot c.requires.sum_value.0 c.requires.sum_value.1 in
-    let whole_of = whole_is c.requires.sum_value.0 in
-    shared_out c.args.pot c.args.weights.now _ size_of whole_of c.requires.weights_len_bound.0 c.args.out.now _
-    c.deal.ensures
+    shared_out c.args.pot c.args.weights.now _
+    (size_is c.args.pot c.requires.sum_value.0 c.requires.sum_value.1) (whole_is c.requires.sum_value.0)
+    c.requires.weights_len_bound.0 c.args.out.now _ c.deal.ensures

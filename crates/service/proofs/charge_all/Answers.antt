@@ -1,22 +1,21 @@
 -- `service::charge_all` meets its contract: a zone that is refused has the answer, else the non-zone pot does.
 -- Assumes nothing.
-use mathlib.Core.Path.{◌≡◌, refl}
-use Rattle.service.specs.Service.{service_of, nonzone_parts}
+use mathlib.Core.Path.{refl, ap, ◌∙◌}
+use Rattle.std.proofs.Common.{rules}
+use Rattle.answer.specs.declared.Part.TheVariants.{Divisions}
+use Rattle.answer.specs.Results.{result_answer}
+use Rattle.answer.proofs.Results.{placed_answer}
 use Rattle.service.proofs.Serving.{parts_are, zone_stops, room_for_nonzone, nonzone_ends}
 use Rattle.service.proofs.charge_all.Goals as goal
 
-pub returns-then-number-ne-ACCEPTED : goal.returns-then-number-ne-ACCEPTED
-returns-then-number-ne-ACCEPTED c = zone_stops c.charge_zones-charged.ensures c.if-number-ne-ACCEPTED.true
+pub returns-in_err-nonzone : goal.returns-in_err-nonzone
+returns-in_err-nonzone c = search (rules, zone_stops)
 
-pub divide_all-refusal-requires : goal.divide_all-refusal-requires
-divide_all-refusal-requires c =
-    room_for_nonzone c.charge_zones-charged.ensures c.if-number-ne-ACCEPTED.false _
-    c.requires.service_together.both_parts
-    c.requires.service_together.together.few_groups
+pub divide_all-divided-requires : goal.divide_all-divided-requires
+divide_all-divided-requires c =
+    room_for_nonzone c.in_ok-nonzone.ensures _ c.args.lists.together.both_parts c.args.lists.together.together.few_groups
 
 pub returns : goal.returns
 returns c =
-    let parts-of : c.args.nonzoneparts.now ≡ nonzone_parts (service_of c.args.pots.now c.args.numbers.now c.args.zoneparts.now c.args.nonzoneparts.now c.args.zones.now) = parts_are _ _ c.requires.service_together.both_parts refl in
-    nonzone_ends c.charge_zones-charged.ensures
-    c.if-number-ne-ACCEPTED.false _ parts-of _ _
-    c.divide_all-refusal.ensures _ c.refused.ensures
+    nonzone_ends c.in_ok-nonzone.ensures _ (parts_are _ _ c.args.lists.together.both_parts refl) _ _ c.divide_all-divided.ensures _
+    (ap result_answer c.placed.ensures ∙ placed_answer c.divide_all-divided.result Divisions _)

@@ -1,19 +1,19 @@
 -- `settlement::divide_month` meets its contract: the parts answer in turn, and the columns that are lent to them hold the month's
 -- figures.
 -- Assumes nothing.
-use mathlib.Core.Path.{refl, sym, ap, ◌∙◌}
+use mathlib.Core.Path.{refl, sym, ap}
 use mathlib.Core.List.{List}
 use Prim.Native.Nat.{ℕ, ◌+◌, ◌*◌}
 use native.Mathlib.Omega.{arith}
 use lib.ListN.{replicate}
-use Rattle.answer.specs.Turns.{◌then◌}
 use Rattle.tables.specs.declared.Table.TheVariants.{Accounts}
 use Rattle.tables.specs.Shape.{limit}
 use Rattle.columns.specs.Blocks.{column_at}
 use Rattle.pool.specs.Input.{Input}
 use Rattle.pool.specs.Filled.{accounts_input, AccountsFilled}
+use Rattle.pool.proofs.Crediting.{and_answer}
 use Rattle.settlement.specs.Steps.{Settleable, Working}
-use Rattle.settlement.proofs.Settling.{first_long, account_column, new_whole, Begun, whole₁, divisible, servable, whole₂, whole₃, whole₄, reservable, whole₅, month_divided}
+use Rattle.settlement.proofs.Settling.{first_long, account_column, new_whole, Begun, whole₁, divisible, servable, whole₂, whole₃, reservable, month_divided}
 use Rattle.settlement.proofs.divide_month.Goals as goal
 
 -- where the accounts' first column and the two parts of their use are filled
@@ -40,66 +40,34 @@ slice_bounds-credit-end-2 c = sym (first_long (whole₁ (begun c.requires c.fill
 pub slice_bounds-credit-end-4 : goal.slice_bounds-credit-end-4
 slice_bounds-credit-end-4 c = sym (divisible (begun c.requires c.fill.ensures)).1.long
 
-pub credit-first-requires : goal.credit-first-requires
-credit-first-requires c = divisible (begun c.requires c.fill.ensures)
+pub credit-network-requires : goal.credit-network-requires
+credit-network-requires c = divisible (begun c.requires c.fill.ensures)
 
-pub settle-second-requires : goal.settle-second-requires
-settle-second-requires c =
+pub settle-black_start-requires : goal.settle-black_start-requires
+settle-black_start-requires c =
     let b = begun c.requires c.fill.ensures in
-    let can = servable b (whole₂ b c.credit-first.ensures) 1 2 (omega arith) (omega arith) in
+    let can = servable b (whole₂ b c.credit-network.ensures) 1 2 (omega arith) (omega arith) in
     record {
       creditable = (can.0.0, can.0.1, omega (arith, c.rows_of-count.ensures, can.0.0.few_zones));
       room_for_rows = (can.1, can.2);
     }
 
-pub slice_bounds-settle-end-7 : goal.slice_bounds-settle-end-7
-slice_bounds-settle-end-7 c =
-    omega (arith, (whole₃ (begun c.requires c.fill.ensures) c.credit-first.ensures c.settle-second.ensures).for_accounts_lem)
-
-pub slice_bounds-settle-end-8 : goal.slice_bounds-settle-end-8
-slice_bounds-settle-end-8 c =
-    omega (arith, (whole₃ (begun c.requires c.fill.ensures) c.credit-first.ensures c.settle-second.ensures).for_owners)
-
-pub settle-third-requires : goal.settle-third-requires
-settle-third-requires c =
+pub settle-reactive-requires : goal.settle-reactive-requires
+settle-reactive-requires c =
     let b = begun c.requires c.fill.ensures in
-    let can = servable b (whole₃ b c.credit-first.ensures c.settle-second.ensures) 2 3 (omega arith) (omega arith) in
+    let can = servable b (whole₃ b c.credit-network.ensures c.settle-black_start.ensures) 2 3 (omega arith) (omega arith) in
     record {
       creditable = (can.0.0, can.0.1, omega (arith, c.rows_of-count.ensures, can.0.0.few_zones));
       room_for_rows = (can.1, can.2);
     }
 
-pub slice_bounds-settle-end-9 : goal.slice_bounds-settle-end-9
-slice_bounds-settle-end-9 c =
-    let b = begun c.requires c.fill.ensures in
-    omega (arith, (whole₄ b c.credit-first.ensures c.settle-second.ensures c.settle-third.ensures).for_accounts_lem)
-
-pub slice_bounds-settle-end-10 : goal.slice_bounds-settle-end-10
-slice_bounds-settle-end-10 c =
-    let b = begun c.requires c.fill.ensures in
-    omega (arith, (whole₄ b c.credit-first.ensures c.settle-second.ensures c.settle-third.ensures).for_owners)
-
-pub settle-fourth-requires : goal.settle-fourth-requires
-settle-fourth-requires c =
-    reservable (begun c.requires c.fill.ensures) c.credit-first.ensures c.settle-second.ensures c.settle-third.ensures
-
-pub shape_of-accounts : goal.shape_of-accounts
-shape_of-accounts c =
-    let b = begun c.requires c.fill.ensures in
-    (whole₅ b c.credit-first.ensures c.settle-second.ensures c.settle-third.ensures c.settle-fourth.ensures).for_accounts_lem
-    ∙ sym c.requires.1.for_accounts_lem
-
-pub shape_of-owners : goal.shape_of-owners
-shape_of-owners c =
-    let b = begun c.requires c.fill.ensures in
-    (whole₅ b c.credit-first.ensures c.settle-second.ensures c.settle-third.ensures c.settle-fourth.ensures).for_owners
-    ∙ sym c.requires.1.for_owners
+pub settle-firm-requires : goal.settle-firm-requires
+settle-firm-requires c =
+    reservable (begun c.requires c.fill.ensures) c.credit-network.ensures c.settle-black_start.ensures c.settle-reactive.ensures
 
 pub returns : goal.returns
 returns c =
     let b = begun c.requires c.fill.ensures in
-    month_divided b c.credit-first.ensures c.settle-second.ensures c.settle-third.ensures c.settle-fourth.ensures refl refl
+    month_divided b c.credit-network.ensures c.settle-black_start.ensures c.settle-reactive.ensures c.settle-firm.ensures refl refl
     (ap (λ k. k + 1) c.rows_of-count.ensures) (ap (λ k. 3 * k + 2) c.rows_of-count.ensures) (ap (λ k. 5 * k + 3) c.rows_of-count.ensures)
-    (c.in_turn-3.ensures
-    ∙ ap (λ r. r then c.settle-fourth.result)
-    (c.in_turn-2.ensures ∙ ap (λ r. r then c.settle-third.result) c.in_turn.ensures))
+    (rw (c.and-3.ensures, and_answer, c.and-2.ensures, and_answer, c.and.ensures, and_answer))

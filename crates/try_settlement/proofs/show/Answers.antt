@@ -10,10 +10,10 @@ use Rattle.try_settlement.proofs.show.Goals as goal
 
 pub slice_bounds-out-end : goal.slice_bounds-out-end
 slice_bounds-out-end c =
-    let inside : c.statement-shown.result.length ≤ length c.statement-shown.new.out = le_trans (le_of_eq c.statement-shown.ensures.length_is) (le_trans (fitting_within _ _) (le_of_eq (sym c.statement-shown.auto.out))) in
+    let inside : c.in-Ok.length ≤ length c.statement.new.out = le_trans (le_of_eq c.in-Ok.ensures.length_is) (le_trans (fitting_within _ _) (le_of_eq (sym c.statement.auto.out))) in
     inside
 
-pub slice_bounds-write_all-end-2 : goal.slice_bounds-write_all-end-2
-slice_bounds-write_all-end-2 c =
-    let inside : c.statement-shown.result.length ≤ length c.statement-shown.new.out = le_trans (le_of_eq c.statement-shown.ensures.length_is) (le_trans (fitting_within _ _) (le_of_eq (sym c.statement-shown.auto.out))) in
+pub slice_bounds-write_all-end : goal.slice_bounds-write_all-end
+slice_bounds-write_all-end c =
+    let inside : c.in-Ok.length ≤ length c.statement.new.out = le_trans (le_of_eq c.in-Ok.ensures.length_is) (le_trans (fitting_within _ _) (le_of_eq (sym c.statement.auto.out))) in
     sym (length-take-le _ _ inside)

@@ -1,15 +1,10 @@
 -- `cents::handing::hand_out` meets its contract: each word passed has its cent, and the words ahead are as they were.
 -- Assumes nothing.
 use mathlib.Core.Path.{◌≡◌}
-use Prim.Native.Nat.{◌≤◌, ◌-◌}
-use lib.ListN.{length}
 use Rattle.lists.specs.Entries.{put}
 use Rattle.cents.specs.Steps.{Between, handed}
 use Rattle.cents.proofs.handing.hand_out.Given as goal
 
 abbrev pub invariant-loop-i : goal.invariant-loop-i
 invariant-loop-i l =
-    (l.i ≤ length l.keys) × (l.out ≡ put l.i (handed l.left l.keys l.initial.out) l.initial.out) × Between l.left l.keys l.bounds.low l.bounds.high
-
-abbrev pub decreases-loop-i : goal.decreases-loop-i
-decreases-loop-i l = length l.keys - l.i
+    (l.out ≡ put l.i (handed l.left l.keys l.initial.out) l.initial.out) × Between l.left l.keys l.bounds.low l.bounds.high

@@ -1,31 +1,25 @@
 -- `fileform::row::count_rows` meets its contract.
 -- Assumes nothing.
 use native.Mathlib.Omega.{arith}
-use Rattle.fileform.proofs.RowWalks.{rows_start, rows_missing, rows_next, rows_end}
 use Rattle.text.specs.Lines.{line}
+use Rattle.fileform.proofs.RowWalks.{rows_missing, rows_next, rows_end}
 use Rattle.fileform.proofs.row.count_rows.Goals as goal
 
-pub loop-left-init : goal.loop-left-init
-loop-left-init c = (c.requires, omega arith, rows_start _)
+pub returns-in-None : goal.returns-in-None
+returns-in-None c =
+    let a = c.args in
+    let l = c.loop-count in
+    rows_missing (line a.key.now a.width) a.text.now _ l.i a.most l.count l.invariant.1 c.loop-count-test.true l.invariant.0 c.in-None.ensures
 
-pub returns-then-next-eq0 : goal.returns-then-next-eq0
-returns-then-next-eq0 c =
-    rows_missing (line c.args.key.now c.args.width) c.args.text.now _ c.loop-left.i c.loop-left.count c.loop-left.left c.loop-left.invariant.2
-    c.loop-left-test.true c.next_line-next.result c.next_line-next.ensures c.loop-left.invariant.0 c.if-next-eq0.true
-
-pub overflow_add-count : goal.overflow_add-count
-overflow_add-count c = omega (arith, c.loop-left.invariant.1, c.ranges.most)
-
-pub loop-left-preserved : goal.loop-left-preserved
-loop-left-preserved c = (
-  c.next_line-next.ensures.inside,
-  omega arith,
-  rows_next (line c.args.key.now c.args.width) c.args.text.now _ c.loop-left.i c.loop-left.count c.loop-left.left c.loop-left.invariant.2
-      c.loop-left-test.true c.next_line-next.result c.next_line-next.ensures c.if-next-eq0.false,
-)
+pub loop-count-preserved : goal.loop-count-preserved
+loop-count-preserved c =
+    let a = c.args in
+    let l = c.loop-count in
+    let next = c.in-Some.ensures in
+    (next.0, rows_next (line a.key.now a.width) a.text.now _ l.i a.most l.count l.invariant.1 c.loop-count-test.true c.in-Some.next next.1.0 next.1.1)
 
 pub returns : goal.returns
 returns c =
     let a = c.args in
-    let l = c.loop-left in
-    rows_end (line a.key.now a.width) a.text.now _ l.i l.count l.left l.invariant.2 l.invariant.0 c.loop-left-test.false
+    let l = c.loop-count in
+    rows_end (line a.key.now a.width) a.text.now _ l.i a.most l.count l.invariant.1 l.invariant.0 (omega arith)

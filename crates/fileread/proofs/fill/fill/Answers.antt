@@ -127,27 +127,6 @@ take_table-requires c =
     (took6 c.requires c.take_table-first.ensures c.take_table-second.ensures c.take_table-third.ensures
     c.take_table-fourth.ensures c.take_table-fifth.ensures c.take_table-sixth.ensures).stands
 
-pub shape_of-zones : goal.shape_of-zones
-shape_of-zones c = c.take_table-first.auto.words
-
-pub shape_of-owners : goal.shape_of-owners
-shape_of-owners c = c.take_table-second.auto.words
-
-pub shape_of-units : goal.shape_of-units
-shape_of-units c = c.take_table-third.auto.words
-
-pub shape_of-accounts : goal.shape_of-accounts
-shape_of-accounts c = c.take_table-fourth.auto.words
-
-pub shape_of-loads : goal.shape_of-loads
-shape_of-loads c = c.take_table-fifth.auto.words
-
-pub shape_of-reservations : goal.shape_of-reservations
-shape_of-reservations c = c.take_table-sixth.auto.words
-
-pub shape_of-firm : goal.shape_of-firm
-shape_of-firm c = c.take_table.auto.words
-
 pub returns : goal.returns
 returns c =
     all_left c.requires c.take_table-first.ensures c.take_table-second.ensures c.take_table-third.ensures

@@ -1,29 +1,34 @@
--- `fileread::judge::judge_end` meets its contract.
+-- `fileread::judge::judge_end` meets its contract: the last line is there with its number, and nothing behind it, or the refusal says where.
 -- Assumes nothing.
-use mathlib.Core.Path.{refl, ◌∙◌}
-use mathlib.Core.List.{[], ◌∷◌}
-use Rattle.answer.proofs.Turns.{refuse_none}
+use mathlib.Core.Path.{ap, ◌∙◌}
+use Rattle.std.proofs.lemmas.Result.{err_from_is_err_and}
+use Rattle.answer.specs.Results.{refused_answer}
 use Rattle.fileform.specs.Form.{month_form}
-use Rattle.fileread.proofs.LineWalks.{end_missing, end_other, end_behind, end_fine}
+use Rattle.fileread.proofs.LineWalks.{asked, end_missing, end_other, end_behind, end_fine}
 use Rattle.fileread.proofs.judge.judge_end.Goals as goal
 
-pub returns-then-next-eq0 : goal.returns-then-next-eq0
-returns-then-next-eq0 c =
-    end_missing month_form.last c.args.text.now c.args.at c.args.total c.requires (0 ∷ []) c.one_number-next.result
-    c.one_number-next.new.words c.one_number-next.ensures refl c.if-next-eq0.true c.refused.result c.refused.ensures
+pub returns-in_err-number : goal.returns-in_err-number
+returns-in_err-number c =
+    let up = err_from_is_err_and c.from_residual.result c.from_residual.ensures.1 in
+    let line = rw c.in_err-number.ensures.ok_part at c.one_number.ensures in
+    rw (up.1, up.2)
+    (end_missing month_form.last c.args.text.now c.args.at c.args.total c.requires line _
+    (ap refused_answer (asked c.one_number.result _ _ c.in_err-number.ensures.value) ∙ c.unfit.ensures))
 
 pub returns-then-number-total : goal.returns-then-number-total
 returns-then-number-total c =
-    end_other month_form.last c.args.text.now c.args.at c.args.total c.requires (0 ∷ []) c.one_number-next.result
-    c.one_number-next.new.words c.one_number-next.ensures refl c.if-next-eq0.false c.if-number-total.true c.refused-then-number-total.result c.refused-then-number-total.ensures
+    let line = rw c.in_ok-number.ensures.ok_part at c.one_number.ensures in
+    end_other month_form.last c.args.text.now c.args.at c.args.total c.requires c.in_ok-number.number.value c.in_ok-number.number.next line.0 line.1
+    c.if-number-total.true _ c.unfit-then-number-total.ensures
 
-pub returns-then-next-text : goal.returns-then-next-text
-returns-then-next-text c =
-    end_behind month_form.last c.args.text.now c.args.at c.args.total c.requires (0 ∷ []) c.one_number-next.result
-    c.one_number-next.new.words c.one_number-next.ensures refl c.if-next-eq0.false c.if-number-total.false c.if-next-text.true c.refused-then-next-text.result c.refused-then-next-text.ensures
+pub returns-then-number-text : goal.returns-then-number-text
+returns-then-number-text c =
+    let line = rw c.in_ok-number.ensures.ok_part at c.one_number.ensures in
+    end_behind month_form.last c.args.text.now c.args.at c.args.total c.requires c.in_ok-number.number.value c.in_ok-number.number.next line.0 line.1
+    c.if-number-total.false c.if-number-text.true _ c.unfit-then-number-text.ensures
 
 pub returns : goal.returns
 returns c =
-    end_fine month_form.last c.args.text.now c.args.at c.args.total c.requires (0 ∷ []) c.one_number-next.result
-    c.one_number-next.new.words c.one_number-next.ensures refl c.if-next-eq0.false c.if-number-total.false c.if-next-text.false c.refused-2.result
-    (c.refused-2.ensures ∙ refuse_none 0 0 0 refl)
+    let line = rw c.in_ok-number.ensures.ok_part at c.one_number.ensures in
+    end_fine month_form.last c.args.text.now c.args.at c.args.total c.requires c.in_ok-number.number.value c.in_ok-number.number.next line.0 line.1
+    c.if-number-total.false c.if-number-text.false

@@ -1,12 +1,12 @@
 -- `filewrite::put::put_text` meets its contract: the first lines, the tables and the last line, one behind the other.
 -- Assumes nothing.
-use mathlib.Core.Path.{◌≡◌, refl, ◌∙◌}
+use mathlib.Core.Path.{◌≡◌, refl}
 use mathlib.Core.List.{map}
 use Prim.Native.Nat.{ℕ, ◌+◌}
 use native.Mathlib.Omega.{arith}
 use lib.ListN.{length}
 use Rattle.tables.specs.declared.Head.{Head}
-use Rattle.tables.specs.Shape.{Tables, tables_from}
+use Rattle.tables.specs.Shape.{Tables, tables_now}
 use Rattle.fileform.specs.Reading.{rows_in_all}
 use Rattle.filewrite.specs.Calls.{all_rows, month_text}
 use Rattle.filewrite.proofs.Pieces.{heads_of, tables_of, end_of, file_pieces, three_length, three_put}
@@ -20,29 +20,26 @@ pieces head written rows q =
 
 pub put_heads-heads-requires : goal.put_heads-heads-requires
 put_heads-heads-requires c =
-    let written = tables_from (map (λ x. x.now) c.args.tables) in
+    let written = tables_now c.args.tables in
     omega (arith, pieces c.args.head written (rows_in_all (all_rows written)) refl, c.requires)
 
 pub put_tables-rows-requires : goal.put_tables-rows-requires
 put_tables-rows-requires c =
-    let written = tables_from (map (λ x. x.now) c.args.tables) in
+    let written = tables_now c.args.tables in
     let heads = c.put_heads-heads in
     omega (arith, pieces c.args.head written (rows_in_all (all_rows written)) refl, c.requires, heads.ensures.onward, heads.auto.out)
 
 pub put_end-requires : goal.put_end-requires
 put_end-requires c =
-    let written = tables_from (map (λ x. x.now) c.args.tables) in
+    let written = tables_now c.args.tables in
     let heads = c.put_heads-heads in
     let tables = c.put_tables-rows in
     let rows = c.rows_in_all in
     omega (arith, pieces c.args.head written rows.result rows.ensures, c.requires, heads.ensures.onward, heads.auto.out, tables.ensures.onward, tables.auto.out)
 
-pub shape_of-out : goal.shape_of-out
-shape_of-out c = c.put_end.auto.out ∙ c.put_tables-rows.auto.out ∙ c.put_heads-heads.auto.out
-
 pub returns : goal.returns
 returns c =
-    let written : Tables = tables_from (map (λ x. x.now) c.args.tables) in
+    let written : Tables = tables_now c.args.tables in
     let heads = c.put_heads-heads in
     let tables = c.put_tables-rows in
     let rows = c.rows_in_all in

@@ -1,21 +1,14 @@
 -- `filewrite::put::text_size` meets its contract: the first lines, the tables and the last line, one after the other.
 -- Assumes nothing.
 use mathlib.Core.List.{map}
-use Rattle.tables.specs.Shape.{tables_from}
-use Rattle.text.proofs.Stores.{sized_most}
+use Rattle.tables.specs.Shape.{tables_now}
 use Rattle.filewrite.proofs.Pieces.{heads_of, tables_of, end_of, file_pieces, three_sized}
 use Rattle.filewrite.proofs.put.text_size.Goals as goal
-
-pub tables_size-rows-requires : goal.tables_size-rows-requires
-tables_size-rows-requires c = sized_most _ _ _ c.heads_size-heads.result c.heads_size-heads.ensures
-
-pub end_size-requires : goal.end_size-requires
-end_size-requires c = sized_most _ _ _ c.tables_size-rows.result c.tables_size-rows.ensures
 
 pub returns : goal.returns
 returns c =
     let a = c.args in
-    let t = tables_from (map (λ x. x.now) a.tables) in
+    let t = tables_now a.tables in
     let heads = c.heads_size-heads in
     let rows = c.rows_in_all in
     three_sized (heads_of a.head) (tables_of t) (end_of rows.result) _ (file_pieces a.head t rows.result rows.ensures) a.cap heads.result

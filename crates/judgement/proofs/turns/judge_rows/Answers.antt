@@ -1,26 +1,19 @@
--- `judgement::turns::judge_rows` meets its contract: every row that the loop has passed is fine, and the one where it stops is the first that is not.
+-- `judgement::turns::judge_rows` meets its contract: the first row that is not fine gives the answer.
 -- Assumes nothing.
-use Rattle.judgement.proofs.Turning.{refusal_stays, rows_start, is_row, rows_more, rows_stop, rows_end}
+use native.Mathlib.Omega.{arith}
+use Rattle.judgement.proofs.Refusals.{row_answer, rows_start, rows_more, rows_stop, rows_end}
 use Rattle.judgement.proofs.turns.judge_rows.Goals as goal
 
-pub returns-then-refusal-ne-ACCEPTED : goal.returns-then-refusal-ne-ACCEPTED
-returns-then-refusal-ne-ACCEPTED c = refusal_stays _ _ c.if-refusal-ne-ACCEPTED.true
-
 pub loop-i-init : goal.loop-i-init
-loop-i-init c = rows_start _ _ _ c.words_of-words.result.now _ c.words_of-words.ensures c.rows_in-n.ensures
+loop-i-init c = rows_start _ _ _
 
-pub row-number-requires : goal.row-number-requires
-row-number-requires c = is_row c.loop-i.invariant c.loop-i-test.true
-
-pub returns-then-number-ne-ACCEPTED : goal.returns-then-number-ne-ACCEPTED
-returns-then-number-ne-ACCEPTED c =
-    rows_stop c.loop-i.invariant _ c.if-refusal-ne-ACCEPTED.false _ _ _ c.loop-i-test.true c.row-number.ensures
-    c.if-number-ne-ACCEPTED.true
-    c.number.ensures
-    c.refused.ensures
+pub returns-in_err-placed : goal.returns-in_err-placed
+returns-in_err-placed c =
+    rows_stop c.loop-i.invariant (omega arith) c.from_residual.result _ c.from_residual.ensures.1
+    (row_answer c.row-outcome.result _ c.part.result _ _ _ c.in_err-placed.ensures c.row-outcome.ensures c.part.ensures)
 
 pub loop-i-preserved : goal.loop-i-preserved
-loop-i-preserved c = rows_more c.loop-i.invariant _ c.loop-i-test.true c.row-number.ensures c.if-number-ne-ACCEPTED.false
+loop-i-preserved c = rows_more c.loop-i.invariant (row_answer c.row-outcome.result _ c.part.result _ _ _ c.in_ok-placed.ensures c.row-outcome.ensures c.part.ensures)
 
 pub returns : goal.returns
-returns c = rows_end c.loop-i.invariant _ c.if-refusal-ne-ACCEPTED.false c.loop-i-test.false
+returns c = rows_end c.loop-i.invariant (omega arith)

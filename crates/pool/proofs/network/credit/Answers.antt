@@ -4,19 +4,21 @@
 use mathlib.Core.Path.{◌≡◌, sym, ap, ◌∙◌}
 use mathlib.Core.List.{List}
 use Prim.Native.Nat.{ℕ}
-use native.Mathlib.Nat.{le_trans, le_of_eq}
 use native.Mathlib.Omega.{arith}
 use lib.ListN.{replicate}
+use Rattle.lists.specs.Entries.{put}
 use Rattle.answer.specs.Numbers.{DIVISIONS}
 use Rattle.answer.specs.Turns.{refuse}
-use Rattle.columns.proofs.Fronts.{stored_front}
-use Rattle.columns.proofs.Blocks.{columns_long}
-use Rattle.pool.proofs.Crediting.{Lists, together, half_long, second_addable, network_divided, network_credited}
-use Rattle.lists.specs.Entries.{put}
+use Rattle.answer.specs.Results.{result_answer, result_number}
+use Rattle.answer.specs.declared.Part.TheVariants.{Divisions}
+use Rattle.answer.proofs.Results.{placed_answer}
 use Rattle.tables.specs.declared.Table.TheVariants.{Zones, Owners}
 use Rattle.tables.specs.Shape.{Tables, rows, limit}
 use Rattle.tables.specs.Columns.{zone_number, owner_zone, owner_requirement}
+use Rattle.columns.proofs.Fronts.{stored_front}
+use Rattle.columns.proofs.Blocks.{columns_long}
 use Rattle.pool.specs.Divided.{charges_from, Divisible}
+use Rattle.pool.proofs.Crediting.{Lists, together, and_answer, second_addable, network_divided, network_credited}
 use Rattle.pool.proofs.network.credit.Goals as goal
 
 -- the lists that are divided, filled from the tables and the network charges
@@ -35,102 +37,26 @@ filled can zones owners pots numbers requirements ownerzones =
       ownerzones_front = stored_front _ _ _ ownerzones can.few_owners owners;
     }
 
-pub copy-requires : goal.copy-requires
-copy-requires c = (omega arith, c.requires.0.few_zones)
-
-pub sums_in-requires : goal.sums_in-requires
-sums_in-requires c = let can = c.requires.0 in record {
-  column_bound = (omega arith, can.charges);
-  room_for_rows = can.few_zones;
-}
-
-pub copy-requires-2 : goal.copy-requires-2
-copy-requires-2 c = (omega arith, c.requires.0.few_owners)
-
-pub copy-requires-3 : goal.copy-requires-3
-copy-requires-3 c = (omega arith, c.requires.0.few_owners)
-
-pub slice_bounds-pots-end : goal.slice_bounds-pots-end
-slice_bounds-pots-end c =
-    (stored_front _ _ _ c.sums_in.ensures c.requires.0.few_zones c.rows_of-zonecount.ensures).within
-
-pub slice_bounds-each_group-end : goal.slice_bounds-each_group-end
-slice_bounds-each_group-end c =
-    (stored_front _ _ _ c.sums_in.ensures c.requires.0.few_zones c.rows_of-zonecount.ensures).long
-
-pub slice_bounds-numbers-end : goal.slice_bounds-numbers-end
-slice_bounds-numbers-end c =
-    (stored_front _ _ _ c.copy.ensures c.requires.0.few_zones c.rows_of-zonecount.ensures).within
-
 pub slice_bounds-each_group-end-2 : goal.slice_bounds-each_group-end-2
-slice_bounds-each_group-end-2 c =
-    (stored_front _ _ _ c.copy.ensures c.requires.0.few_zones c.rows_of-zonecount.ensures).long
+slice_bounds-each_group-end-2 c = sym (columns_long 64 0 c.args.credits.now 1 (omega (arith, c.requires.1.long)))
 
-pub slice_bounds-requirements-end : goal.slice_bounds-requirements-end
-slice_bounds-requirements-end c =
-    (stored_front _ _ _ c.copy-2.ensures c.requires.0.few_owners c.rows_of-ownercount.ensures).within
-
-pub slice_bounds-each_group-end-3 : goal.slice_bounds-each_group-end-3
-slice_bounds-each_group-end-3 c =
-    (stored_front _ _ _ c.copy-2.ensures c.requires.0.few_owners c.rows_of-ownercount.ensures).long
-
-pub slice_bounds-ownerzones-end : goal.slice_bounds-ownerzones-end
-slice_bounds-ownerzones-end c =
-    (stored_front _ _ _ c.copy-3.ensures c.requires.0.few_owners c.rows_of-ownercount.ensures).within
-
-pub slice_bounds-each_group-end-4 : goal.slice_bounds-each_group-end-4
-slice_bounds-each_group-end-4 c =
-    (stored_front _ _ _ c.copy-3.ensures c.requires.0.few_owners c.rows_of-ownercount.ensures).long
-
-pub slice_bounds-each_group-end-5 : goal.slice_bounds-each_group-end-5
-slice_bounds-each_group-end-5 c = omega (arith, c.requires.1.long)
-
-pub slice_bounds-each_group-end-6 : goal.slice_bounds-each_group-end-6
-slice_bounds-each_group-end-6 c =
-    sym (columns_long 64 0 c.args.credits.now 1 (omega (arith, c.requires.1.long)))
-
-pub each_group-zones-requires : goal.each_group-zones-requires
-each_group-zones-requires c =
-    let lists = filled c.requires.0 c.rows_of-zonecount.ensures c.rows_of-ownercount.ensures
-    c.sums_in.ensures c.copy.ensures c.copy-2.ensures c.copy-3.ensures in
+pub each_group-zones-requires-clause-weights_in_bounds : goal.each_group-zones-requires-clause-weights_in_bounds
+each_group-zones-requires-clause-weights_in_bounds c =
+    let lists = filled c.requires.0 c.rows_of-zonecount.ensures c.rows_of-ownercount.ensures c.sums_in.ensures c.copy.ensures c.copy-2.ensures c.copy-3.ensures in
     let goes = together lists c.requires.0 in
-    let room = columns_long 64 0 c.args.credits.now 1 (omega (arith, c.requires.1.long)) in
-    record {
-      together = goes;
-      weights_in_bounds = le_trans goes.few_members (le_of_eq (sym room));
-      numbers_bound = omega (arith, goes.few_groups);
-    }
+    omega (arith, goes.few_members, columns_long 64 0 c.args.credits.now 1 (omega (arith, c.requires.1.long)))
 
-pub sum_in-nonzone-requires : goal.sum_in-nonzone-requires
-sum_in-nonzone-requires c = (omega arith, c.requires.0.charges)
-
-pub slice_bounds-requirements-end-2 : goal.slice_bounds-requirements-end-2
-slice_bounds-requirements-end-2 c =
-    (stored_front _ _ _ c.copy-2.ensures c.requires.0.few_owners c.rows_of-ownercount.ensures).within
-
-pub slice_bounds-divide_all-end : goal.slice_bounds-divide_all-end
-slice_bounds-divide_all-end c =
-    (stored_front _ _ _ c.copy-2.ensures c.requires.0.few_owners c.rows_of-ownercount.ensures).long
-
-pub slice_bounds-divide_all-end-2 : goal.slice_bounds-divide_all-end-2
-slice_bounds-divide_all-end-2 c =
-    le_of_eq (sym (half_long c.requires.1 _ c.each_group-zones.ensures))
-
-pub divide_all-number-requires : goal.divide_all-number-requires
-divide_all-number-requires c =
-    let lists = filled c.requires.0 c.rows_of-zonecount.ensures c.rows_of-ownercount.ensures
-    c.sums_in.ensures c.copy.ensures c.copy-2.ensures c.copy-3.ensures in
-    let pre = c.requires in
-    second_addable pre.1 _ c.each_group-zones.ensures (together lists pre.0).few_members
+pub divide_all-divided-requires : goal.divide_all-divided-requires
+divide_all-divided-requires c =
+    let lists = filled c.requires.0 c.rows_of-zonecount.ensures c.rows_of-ownercount.ensures c.sums_in.ensures c.copy.ensures c.copy-2.ensures c.copy-3.ensures in
+    second_addable c.requires.1 _ c.each_group-zones.ensures (together lists c.requires.0).few_members
 
 pub returns : goal.returns
 returns c =
-    let lists = filled c.requires.0 c.rows_of-zonecount.ensures c.rows_of-ownercount.ensures
-    c.sums_in.ensures c.copy.ensures c.copy-2.ensures c.copy-3.ensures in
-    network_credited lists c.sum_in-nonzone.ensures
-    (network_divided c.requires.1 _ c.each_group-zones.ensures c.divide_all-number.ensures
-    (c.refused.ensures ∙ ap (refuse c.divide_all-number.result DIVISIONS) lists.numbers_front.long)
-    c.in_turn.ensures)
-
-pub shape_of-credits : goal.shape_of-credits
-shape_of-credits c = (returns c).long
+    let lists = filled c.requires.0 c.rows_of-zonecount.ensures c.rows_of-ownercount.ensures c.sums_in.ensures c.copy.ensures c.copy-2.ensures c.copy-3.ensures in
+    network_credited lists c.sum_in-pot.ensures
+    (network_divided c.requires.1 _ c.each_group-zones.ensures c.divide_all-divided.ensures
+    (ap result_answer c.placed-nonzone.ensures
+    ∙ placed_answer c.divide_all-divided.result Divisions c.rows_of-zonecount.result
+    ∙ ap (refuse (result_number c.divide_all-divided.result) DIVISIONS) lists.numbers_front.long)
+    (ap result_answer c.and.ensures ∙ and_answer c.each_group-zones.result c.placed-nonzone.result))

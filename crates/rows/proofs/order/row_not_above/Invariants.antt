@@ -1,11 +1,7 @@
 -- `rows::order::row_not_above` meets its contract: the columns that the loop has passed are the same as those of the row before.
 -- Assumes nothing.
-use Prim.Native.Nat.{◌-◌}
 use Rattle.rows.proofs.KeyColumns.{KeyPassed}
 use Rattle.rows.proofs.order.row_not_above.Given as goal
 
 abbrev pub invariant-loop-column : goal.invariant-loop-column
 invariant-loop-column l = KeyPassed l.table l.words l.i l.keys l.column
-
-abbrev pub decreases-loop-column : goal.decreases-loop-column
-decreases-loop-column l = l.keys - l.column

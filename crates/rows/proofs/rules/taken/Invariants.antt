@@ -2,13 +2,9 @@
 -- Assumes nothing.
 use mathlib.Core.Path.{◌≡◌}
 use mathlib.Core.Bool.{false}
-use Prim.Native.Nat.{◌≤◌, ◌-◌}
 use Rattle.lists.specs.Sums.{any}
 use Rattle.rows.specs.Rows.{same_pair}
 use Rattle.rows.proofs.rules.taken.Given as goal
 
 abbrev pub invariant-loop-j : goal.invariant-loop-j
-invariant-loop-j l = (l.j ≤ l.i) × (any l.j (λ k. same_pair l.accounts k l.i) ≡ false)
-
-abbrev pub decreases-loop-j : goal.decreases-loop-j
-decreases-loop-j l = l.i - l.j
+invariant-loop-j l = any l.j (λ k. same_pair l.accounts k l.i) ≡ false

@@ -1,8 +1,7 @@
 -- `text::line::take_line` meets its contract.
 -- Assumes nothing.
-use mathlib.Core.Path.{sym, ap, ◌∙◌}
+use mathlib.Core.Path.{sym, ◌∙◌}
 use native.Mathlib.Omega.{arith}
-use Rattle.text.specs.Places.{rest_of, fields_of, stored}
 use Rattle.text.proofs.Places.{keyed}
 use Rattle.text.proofs.line.take_line.Goals as goal
 
@@ -16,16 +15,3 @@ pub take_fields-requires : goal.take_fields-requires
 take_fields-requires c =
     let there = keyed c.args.key.now c.args.width c.args.text.now c.args.at c.requires.0 in
     (there.inside, (λ e. c.requires.0 (sym there.same ∙ e)), c.requires.1)
-
-pub shape_of-words : goal.shape_of-words
-shape_of-words c = c.take_fields.auto.words
-
-pub returns : goal.returns
-returns c =
-    let there = keyed c.args.key.now c.args.width c.args.text.now c.args.at c.requires.0 in
-    let done = c.take_fields.ensures in
-    record {
-      inside = done.inside;
-      behind = ap rest_of (sym there.same) ∙ done.behind;
-      written = done.written ∙ ap (λ o. stored c.args.words.now c.args.place (fields_of o)) there.same;
-    }

@@ -1,12 +1,10 @@
--- `try_judgement::change::changes` meets its contract: each change ends behind its start and within the text.
+-- `try_judgement::change::changes` ends: each change leaves less.
 -- Assumes nothing.
-use mathlib.Core.Path.{◌≡◌}
-use Prim.Native.Nat.{◌≤◌, ◌-◌}
-use lib.ListN.{length}
+use Rattle.std.proofs.Common.{length, ◌≤◌}
 use Rattle.try_judgement.proofs.change.changes.Given as goal
 
-abbrev pub invariant-loop-at : goal.invariant-loop-at
-invariant-loop-at l = (l.from ≤ l.at) × ((l.at ≤ length l.text) × (length l.words ≡ length l.initial.words))
+abbrev pub invariant-loop-alloc : goal.invariant-loop-alloc
+invariant-loop-alloc l = length l.rest ≤ length l.initial.text
 
-abbrev pub decreases-loop-at : goal.decreases-loop-at
-decreases-loop-at l = length l.text - l.at
+abbrev pub decreases-loop-alloc : goal.decreases-loop-alloc
+decreases-loop-alloc l = length l.rest

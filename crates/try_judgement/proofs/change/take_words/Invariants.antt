@@ -1,12 +1,10 @@
--- `try_judgement::change::take_words` meets its contract: each number ends behind its start and within the text.
+-- `try_judgement::change::take_words` ends: each word leaves less.
 -- Assumes nothing.
-use mathlib.Core.Path.{◌≡◌}
-use Prim.Native.Nat.{◌≤◌, ◌-◌}
-use lib.ListN.{length}
+use Rattle.std.proofs.Common.{length, ◌≤◌}
 use Rattle.try_judgement.proofs.change.take_words.Given as goal
 
-abbrev pub invariant-loop-at : goal.invariant-loop-at
-invariant-loop-at l = (l.from ≤ l.at) × ((l.at ≤ length l.text) × ((l.count ≤ l.at) × (length l.words ≡ length l.initial.words)))
+abbrev pub invariant-loop-found : goal.invariant-loop-found
+invariant-loop-found l = length l.rest ≤ length l.initial.text
 
-abbrev pub decreases-loop-at : goal.decreases-loop-at
-decreases-loop-at l = length l.text - l.at
+abbrev pub decreases-loop-found : goal.decreases-loop-found
+decreases-loop-found l = length l.rest

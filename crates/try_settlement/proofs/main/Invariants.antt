@@ -1,0 +1,7 @@
+-- `try_settlement::main` ends: each case leaves less.
+-- Assumes nothing.
+use Rattle.std.proofs.Common.{length}
+use Rattle.try_settlement.proofs.main.Given as goal
+
+abbrev pub decreases-loop-rest : goal.decreases-loop-rest
+decreases-loop-rest l = length l.rest
