@@ -1,6 +1,6 @@
-// What every call answers. A call that refuses says which of the paper's ten refusals it is, in which table or output, and at which
-// row; one that accepts hands over what it found. `Answer` is the same as three numbers, all zero where the call is accepted. Looks
-// are taken in turn, and the first one that finds a fault ends the call: `specs/Turns.antt` says what that comes to.
+//! What every call answers. A call that refuses says which of the paper's ten refusals it is, in which table or output, and at which
+//! row; one that accepts hands over what it found. `Answer` is the same as three numbers, all zero where the call is accepted. Looks
+//! are taken in turn, and the first one that finds a fault ends the call: `specs/Turns.antt` says what that comes to.
 #![tactic(auto)]
 
 ghost use Rattle.std.specs.Prelude.{◌≡◌};
@@ -9,7 +9,7 @@ ghost use Rattle.answer.specs.Results.{Placed};
 
 use std::fmt;
 
-// Why a call is refused.
+/// Why a call is refused.
 #[derive(Clone, Copy, Debug, PartialEq, Eq)]
 pub enum Refusal {
     Count = 1,
@@ -24,7 +24,7 @@ pub enum Refusal {
     Text = 10,
 }
 
-// What a refusal speaks of: the head, a table, one of the two outputs, or the divisions of a month.
+/// What a refusal speaks of: the head, a table, one of the two outputs, or the divisions of a month.
 #[derive(Clone, Copy, Debug, PartialEq, Eq)]
 pub enum Part {
     Head = 0,
@@ -41,14 +41,14 @@ pub enum Part {
 }
 
 impl Refusal {
-    // The paper's number.
+    /// The paper's number.
     pub fn number(self) -> u64
         ensures { result ≡ refusal_number self }
     {
         self as u64
     }
 
-    // This refusal at a place.
+    /// This refusal at a place.
     pub fn at(self, part: Part, row: u64) -> Refused
         ensures { result ≡ record { refusal = self; part = part; row = row } }
     {
@@ -61,7 +61,7 @@ impl Refusal {
 }
 
 impl Part {
-    // The paper's number.
+    /// The paper's number.
     pub fn number(self) -> u64
         ensures { result ≡ part_number self }
     {
@@ -87,7 +87,7 @@ impl fmt::Display for Refusal {
     }
 }
 
-// A refused call: why, and where.
+/// A refused call: why, and where.
 #[derive(Clone, Copy, Debug, PartialEq, Eq)]
 pub struct Refused {
     pub refusal: Refusal,
@@ -95,17 +95,14 @@ pub struct Refused {
     pub row: u64,
 }
 
-// An outcome whose refusal has no place, with the place that its caller gives it.
+/// An outcome whose refusal has no place, with the place that its caller gives it.
 pub fn placed<T>(outcome: Result<T, Refusal>, part: Part, row: u64) -> Result<T, Refused>
     ensures { Placed outcome part row result }
 {
-    match outcome {
-        Ok(found) => Ok(found),
-        Err(refusal) => Err(refusal.at(part, row)),
-    }
+    outcome.map_err(|refusal| refusal.at(part, row))
 }
 
-// The paper's answer to a call: three numbers, all zero where it is accepted.
+/// The paper's answer to a call: three numbers, all zero where it is accepted.
 #[derive(Clone, Copy, Debug, PartialEq, Eq)]
 pub struct Answer {
     pub number: u64,

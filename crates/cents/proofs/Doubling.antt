@@ -5,7 +5,7 @@
 use mathlib.Core.Path.{◌≡◌, refl, sym, ap, ◌∙◌}
 use mathlib.Core.List.{[], ◌∷◌}
 use Prim.Native.Nat.{ℕ, zero, suc, ◌+◌, ◌*◌, ◌/◌, ◌%◌, ◌-◌, ◌^◌, ◌≤◌, ◌<◌}
-use native.Mathlib.Nat.{div-add-mod, div-add-mod', div-mul-le_self, mod-lt, div-eq_of_lt, div-one, mul-le-mul, mul-le-mul_left, mul-div-le, le_refl, le_trans, le_of_mul-le-mul_left, le_of_mul-le-mul_right, lt_of_mul-lt-mul_left, div-eq_of_eq-mul_right, mod-eq_of_lt}
+use native.Mathlib.Nat.{div-add-mod, div-add-mod', div-mul-le_self, mod-lt, div-eq_of_lt, mul-le-mul, mul-le-mul_left, mul-div-le, le_refl, le_trans, le_of_mul-le-mul_left, le_of_mul-le-mul_right, lt_of_mul-lt-mul_left, div-eq_of_eq-mul_right, mod-eq_of_lt}
 use native.Mathlib.Omega.{arith}
 use mathlib.Core.Logic.{⊎_elim}
 use Rattle.lists.proofs.Ranks.{lt_or_le}
@@ -107,12 +107,6 @@ passed_more pot left weight whole cents rest cents' rest' some passed stepped =
       adds_up = omega (arith, ap (λ k. k * weight) next, passed.adds_up, stepped.adds_up);
       rest_fits = stepped.rest_fits;
     }
-
--- .. and the last
-pub passed_all : (pot left weight whole cents rest : ℕ) → left ≤ 0 → Passed (pot / 2 ^ left) weight whole cents rest → Passed pot weight whole cents rest
-passed_all pot left weight whole cents rest none passed =
-    let same : pot / 2 ^ left ≡ pot = ap (λ k. pot / 2 ^ k) (let e : left ≡ 0 = omega arith in e) ∙ div-one pot in
-    record { adds_up = passed.adds_up ∙ ap (λ k. k * weight) same; rest_fits = passed.rest_fits }
 
 module _ (factor weight whole : ℕ) (wide : Stretch factor whole) (part : weight ≤ whole) where
   -- the quotient is never above the pot

@@ -25,10 +25,6 @@ fewer_larger keys x y h =
     (lt_or_le x (at keys j)))
 
 module _ (left : ℕ) (keys : List ℕ) where
-  -- before any key is looked at
-  pub between_all : Between left keys 0 (2 ^ 63)
-  between_all = record { some = λ x fits h. absurd (omega arith); none = λ x fits h. absurd (omega arith) }
-
   module _ (key low high : ℕ) (known : Between left keys low high) where
     pub as_known : (key < low) ⊎ (high ≤ key) → Settling left keys key low high
     as_known settled = record { between = known; settled = settled }

@@ -2,8 +2,8 @@
 -- Assumes nothing.
 use mathlib.Core.Path.{◌≡◌, sym, ap, ap₂, ◌∙◌}
 use mathlib.Core.List.{List}
-use Prim.Native.Nat.{ℕ, ◌+◌, ◌*◌, ◌-◌, ◌≤◌, ◌<◌}
-use native.Mathlib.Nat.{le_trans, le_of_eq, add-zero, zero-add}
+use Prim.Native.Nat.{ℕ, ◌+◌, ◌*◌, ◌-◌, ◌≤◌}
+use native.Mathlib.Nat.{le_trans, le_of_eq, zero-add}
 use native.Mathlib.Omega.{arith}
 use lib.ListN.{length, set, length-set}
 use Rattle.lists.specs.Sums.{sum_to, at}
@@ -12,7 +12,7 @@ use Rattle.lists.proofs.Sums.{sum_none, sum_suc}
 use Rattle.lists.proofs.Entries.{put_none, put_suc}
 use Rattle.cents.specs.Dealt.{most, places, Base, cents_of, key_of}
 use Rattle.cents.specs.Steps.{Room, Quotient, PartKept, Cut, CutDown}
-use Rattle.cents.proofs.Bounds.{given_fits, cents_fit, rest_fits}
+use Rattle.cents.proofs.Bounds.{given_fits}
 
 -- what is kept takes no room away
 pub room_on : {weights out out' keys keys' : List ℕ} {cents rest i r : ℕ} → Room weights out keys
@@ -25,9 +25,6 @@ room_on room kept =
     }
 
 module _ (pot : ℕ) (weights : List ℕ) (whole : ℕ) where
-  pub cut_none : (n : ℕ) (out keys : List ℕ) → Cut pot weights whole n n out out keys keys 0
-  cut_none n out keys = record { given = add-zero (sum_to n (cents_of pot weights whole)); cents = λ l e. e; placed = λ l e. e }
-
   pub cut_on : {a b c : ℕ} {out₁ out₂ out₃ keys₁ keys₂ keys₃ : List ℕ} {r s : ℕ}
       → Cut pot weights whole a b out₁ out₂ keys₁ keys₂ r
       → Cut pot weights whole b c out₂ out₃ keys₂ keys₃ s
@@ -74,22 +71,6 @@ module _ (pot : ℕ) (weights : List ℕ) (whole : ℕ) where
       }
 
   module _ (base : Base pot weights whole) where
-    pub cents_small : (i : ℕ) {out out' keys keys' : List ℕ} {cents rest r : ℕ} → i < length weights
-        → Quotient pot (at weights i) whole cents rest → PartKept cents rest i out out' keys keys' r → r ≤ most
-    cents_small i b part kept =
-        le_trans (le_of_eq (kept.given ∙ part.cents_are)) (le_trans (cents_fit pot weights whole base i b) base.pot_fits)
-
-    pub may_keep : (i : ℕ) {out keys : List ℕ} {cents rest : ℕ} → i < length weights
-        → Quotient pot (at weights i) whole cents rest → Room weights out keys
-        → ((rest ≤ most) × (i < places)) × ((i < length out) × (i < length keys))
-    may_keep i b part room = (
-      (
-        omega (arith, part.rest_is, rest_fits pot weights whole base i, base.whole_fits),
-        omega (arith, room.few),
-      ),
-      (omega (arith, room.cents_room), omega (arith, room.keys_room)),
-    )
-
     -- no more than 64 times the largest pot is given out
     pub given_small : {from : ℕ} (n : ℕ) {out out' keys keys' : List ℕ} {r : ℕ} → n ≤ length weights → length weights ≤ 64
         → Cut pot weights whole from n out out' keys keys' r → r ≤ places * most

@@ -1,13 +1,12 @@
-// Each weight's share cut down to whole cents, and what that cuts off kept with its place.
+//! Each weight's share cut down to whole cents, and what that cuts off kept with its place.
 ghost use Rattle.std.specs.Prelude.{◌+◌, ◌-◌, ◌*◌, ◌/◌, ◌≤◌, ◌<◌, length};
 ghost use Rattle.cents.specs.Dealt.{most, places, Base};
 ghost use Rattle.cents.specs.Steps.{Room, PartKept, Cut, CutDown};
 
-use crate::quotients;
-use crate::quotients::Part;
+use crate::quotients::{self, Part};
 
-// How many positions there can be. A key is a remainder times this, and how far its position is from the last one: no two positions
-// share a key.
+// How many positions there can be. A key is a remainder times this, and how far its position is from the last one, so that one
+// comparison orders remainders and places, and no two positions share a key.
 const PLACES: u64 = 64;
 
 // Keeps one position's whole cents in `out` and its remainder with its place in `keys`, and gives the cents back.
@@ -64,7 +63,7 @@ fn cut_by<const N: usize>(
     given
 }
 
-// Writes each weight's whole cents to `out` and its remainder with its place to `keys`, and adds the whole cents up.
+/// Writes each weight's whole cents to `out` and its remainder with its place to `keys`, and adds the whole cents up.
 pub fn cut_down(pot: u64, weights: &[u64], whole: u64, out: &mut [u64], keys: &mut [u64]) -> u64
     requires base { Base pot weights.now whole }
     requires room { Room weights.now out.old keys.old }

@@ -1,4 +1,4 @@
-// The cents left over, one each to the largest keys.
+//! The cents left over, one each to the largest keys.
 ghost use Rattle.std.specs.Prelude.{◌≡◌, ℕ, ◌^◌, ◌≤◌, ◌<◌, length};
 ghost use Rattle.lists.specs.Sums.{at};
 ghost use Rattle.lists.specs.Entries.{put};
@@ -6,9 +6,9 @@ ghost use Rattle.cents.specs.Dealt.{most};
 ghost use Rattle.cents.specs.Steps.{larger, Between, Settling, handed};
 
 // No key reaches 2^63.
-const TOP: u64 = 9_223_372_036_854_775_808;
+const ABOVE_KEYS: u64 = 1 << 63;
 
-// How many keys are larger than this one.
+// How many keys are larger than this one. A loop and no `filter` with `count`: `larger` counts by position, and an iterator by list.
 #[tactic(auto, using(lists::proofs::Sums::sum_none, lists::proofs::Sums::sum_suc, lists::proofs::Sums::count_le, lists::proofs::Sums::bit_le, crate::proofs::Bits::bit_of))]
 fn standing(keys: &[u64], key: u64) -> u64
     ensures { result ≡ larger keys.now key }
@@ -50,12 +50,15 @@ fn narrowed(left: u64, keys: &[u64], key: u64, bounds: Bounds) -> Bounds
 }
 
 // Bounds to begin with: where remainders are equal, keys fall from position to position, and halving finds the last one with a
-// cent.
+// cent. Each look settles bounds on its way, which `partition_point` has no place for.
 fn first_bounds(left: u64, keys: &[u64]) -> Bounds
     requires { (i : ℕ) → i < length keys.now → at keys.now i < 2 ^ 63 }
     ensures { Between left keys.now result.low result.high }
 {
-    let mut bounds = Bounds { low: 0, high: TOP };
+    let mut bounds = Bounds {
+        low: 0,
+        high: ABOVE_KEYS,
+    };
     let mut from = 0;
     let mut to = keys.len();
     while from < to {
@@ -71,7 +74,7 @@ fn first_bounds(left: u64, keys: &[u64]) -> Bounds
     bounds
 }
 
-// One cent more at each position whose key has fewer larger ones than there are cents left.
+/// One cent more at each position whose key has fewer larger ones than there are cents left.
 pub fn hand_out(left: u64, keys: &[u64], out: &mut [u64])
     requires keys_in_bounds { length keys.now ≤ length out.old }
     requires by_index { (i : ℕ) → i < length keys.now → (at out.old i ≤ most) × (at keys.now i < 2 ^ 63) }

@@ -1,6 +1,6 @@
-// Dealing out a pot in whole cents, by weights that are parts of a whole. Each weight's part of the pot is first cut down to whole
-// cents, and the cents left over go one each to the largest remainders, lower position first. Here stands the work: what a division
-// is and when it is refused stands in `division`.
+//! Dealing out a pot in whole cents, by weights that are parts of a whole. Each weight's part of the pot is first cut down to whole
+//! cents, and the cents left over go one each to the largest remainders, lower position first. Here stands the work: what a division
+//! is and when it is refused stands in `division`.
 #![tactic(auto)]
 
 ghost use Rattle.std.specs.Prelude.{◌≡◌, ◌≤◌, length};
@@ -11,7 +11,7 @@ mod cutting;
 mod handing;
 mod quotients;
 
-// Writes what each weight gets to the first words of `out`.
+/// Writes what each weight gets to the first words of `out`.
 pub fn deal(pot: u64, weights: &[u64], whole: u64, out: &mut [u64])
     requires base { Base pot weights.now whole }
     requires weights_len_bound { (length weights.now ≤ places) × (length weights.now ≤ length out.old) }

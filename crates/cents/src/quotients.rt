@@ -1,11 +1,11 @@
-// The whole part and the remainder of pot times weight over the whole, by doubling: one binary digit of the pot at a time, so that
-// nothing needs more than 64 bits.
+//! The whole part and the remainder of pot times weight over the whole, by doubling and not as one product in a `u128`: one binary
+//! digit of the pot a step, which can be counted as steps.
 ghost use Rattle.std.specs.Prelude.{◌≡◌, ℕ, ◌*◌, ◌/◌, ◌≤◌, ◌<◌, length};
 ghost use Rattle.lists.specs.Sums.{at};
 ghost use Rattle.cents.specs.Dealt.{most};
 ghost use Rattle.cents.specs.Steps.{Steady, Doubled, TakenOff, Quotients};
 
-const TOP: u64 = 4_611_686_018_427_387_904;
+const TOP: u64 = 1 << 62;
 
 #[derive(Clone, Copy)]
 pub struct Part {
@@ -15,7 +15,7 @@ pub struct Part {
 
 // What lets nothing of a gain through, and what lets all of it. They are read from memory: of a mask that is computed from the digit
 // the compiler makes a branch.
-const MASKS: [u64; 2] = [0, 18_446_744_073_709_551_615];
+const MASKS: [u64; 2] = [0, u64::MAX];
 
 // The gain where the digit is 1, else 0. Every bit of the mask is the digit: quicker than a product, and than a branch.
 fn masked(digit: u64, gain: u64) -> u64
@@ -55,8 +55,8 @@ fn settle(part: Part, factor: u64, whole: u64) -> Part
     }
 }
 
-// Pot times weight over the whole, of N weights at once: while a step of one waits for the step before it, the others' go on. Weight
-// and whole are stretched by one factor, so that the whole comes close to 2^62.
+/// Pot times weight over the whole, of N weights at once: while a step of one waits for the step before it, the others' go on. Weight
+/// and whole are stretched by one factor, so that the whole comes close to 2^62.
 pub fn quotients<const N: usize>(pot: u64, weights: &[u64], whole: u64) -> [Part; N]
     requires pot_le_most { (pot ≤ most) × (0 < whole) × (whole ≤ most) }
     requires weights_fit { (length weights.now ≡ N) × ((k : ℕ) → k < N → at weights.now k ≤ whole) }

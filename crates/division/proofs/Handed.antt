@@ -5,12 +5,12 @@ use mathlib.Core.Path.{◌≡◌, refl, sym, ap, ap₂, ◌∙◌}
 use mathlib.Core.Logic.{◌⊎◌, inl, inr, ⊎_elim, ◌≢◌}
 use mathlib.Core.Bool.{Bool, true, false, ◌&&◌, ◌||◌}
 use mathlib.Core.List.{List}
-use Prim.Native.Nat.{ℕ, ◌+◌, ◌-◌, ◌*◌, ◌/◌, ◌%◌, ◌≤◌, ◌<◌}
+use Prim.Native.Nat.{ℕ, ◌+◌, ◌-◌, ◌*◌, ◌/◌, ◌%◌, ◌≤◌, ◌<◌, max}
 use native.Mathlib.Nat.{zero-mul, zero-div, zero-mod, le_trans}
 use native.Mathlib.Omega.{arith}
 use lib.Dec.{ltb, eqb}
 use lib.ListN.{length}
-use borrow.Author.Tests.{lt-ltb, le-ltb, eq-eqb, ne_eqb, ltb-false}
+use borrow.Author.Tests.{lt-ltb, le-ltb, eq-eqb, ltb-false}
 use Rattle.lists.specs.Sums.{sum_to, at, total, bit, count, rank, largest_first}
 use Rattle.lists.specs.Entries.{put}
 use Rattle.lists.proofs.Sums.{sum_eq, neither}
@@ -40,12 +40,12 @@ sized pot w e =
     }
 
 -- the whole that the code divides by is the sum, or 1 where the sum is 0 and so the pot is
-module _ (pot w whole : ℕ) (size : FineSize pot w) (is_whole : whole ≡ w + bit (eqb w 0)) where
+module _ (pot w whole : ℕ) (size : FineSize pot w) (is_whole : whole ≡ max w 1) where
   same_or_none : (whole ≡ w) ⊎ (pot ≡ 0)
   same_or_none =
       ⊎_elim
       (λ (z : w ≡ 0). inr (size.has_base z))
-      (λ (d : w ≢ 0). inl (is_whole ∙ ap (λ t. w + bit t) (ne_eqb w 0 d) ∙ (let e : w + 0 ≡ w = omega arith in e)))
+      (λ (d : w ≢ 0). inl (omega (arith, d)))
       (zero_or_not w)
 
   pub same_quotient : (weight : ℕ) → pot * weight / whole ≡ pot * weight / w
@@ -62,17 +62,10 @@ module _ (pot w whole : ℕ) (size : FineSize pot w) (is_whole : whole ≡ w + b
       (λ (z : pot ≡ 0). simp (z, zero-mul, zero-mod))
       same_or_none
 
-pub base_of : (pot : ℕ) (weights : List ℕ) (whole : ℕ) → FineSize pot (total weights) → whole ≡ total weights + bit (eqb (total weights) 0)
+pub base_of : (pot : ℕ) (weights : List ℕ) (whole : ℕ) → FineSize pot (total weights) → whole ≡ max (total weights) 1
     → Base pot weights whole
 base_of pot weights whole size e =
-    ⊎_elim
-    (λ (z : total weights ≡ 0).
-    let one : whole ≡ total weights + 1 = e ∙ ap (λ t. total weights + bit t) (eq-eqb (total weights) 0 z) in
-    record { pot_fits = omega (arith, size.pot_fits); positive = omega arith; whole_fits = omega arith; adds_up = omega arith })
-    (λ (d : total weights ≢ 0).
-    let same : whole ≡ total weights + 0 = e ∙ ap (λ t. total weights + bit t) (ne_eqb (total weights) 0 d) in
-    record { pot_fits = omega (arith, size.pot_fits); positive = omega arith; whole_fits = omega (arith, size.weights_fit); adds_up = omega arith })
-    (zero_or_not (total weights))
+    record { pot_fits = omega (arith, size.pot_fits); positive = omega arith; whole_fits = omega (arith, size.weights_fit); adds_up = omega arith }
 
 -- keys are ordered as their remainders, lower position first among equals
 pub keyed : (f : ℕ → ℕ) (i j : ℕ) → i < 64 → j < 64 → ltb (f i * 64 + (63 - i)) (f j * 64 + (63 - j)) ≡ largest_first f j i
@@ -92,7 +85,7 @@ keyed f i j bi bj =
 
 module _
     (pot : ℕ) (weights : List ℕ) (whole : ℕ) (size : FineSize pot (total weights))
-    (is_whole : whole ≡ total weights + bit (eqb (total weights) 0)) (few : length weights ≤ most_weights)
+    (is_whole : whole ≡ max (total weights) 1) (few : length weights ≤ most_weights)
   where
     cents_is : (i : ℕ) → cents_of pot weights whole i ≡ quotient pot weights i
     unfolding quotient

@@ -1,11 +1,11 @@
-// The divisions and checks of the file `stdin`, a line each: a name, the pot, the weights, and behind `into` the words that are lent
-// for the shares, or behind `with` the amounts to check. A list is numbers joined by commas, or `nothing`. Each line is written out
-// again, and behind it what came: an answer, and for a division the words as they are then.
+//! The divisions and checks of the file `stdin`, a line each: a name, the pot, the weights, and behind `into` the words that are lent
+//! for the shares, or behind `with` the amounts to check. A list is numbers joined by commas, or `nothing`. Each line is written out
+//! again, and behind it what came: an answer, and for a division the words as they are then.
 ghost use Rattle.std.specs.Prelude.{◌-◌, ◌≤◌, length};
 
 use std::alloc::{AllocError, Global};
-use std::io::Read;
-use std::{fmt, io};
+use std::fmt;
+use std::io::{self, Read};
 use text::number::number_at;
 
 // How many numbers are read of a list at the most.
@@ -95,6 +95,7 @@ pub(crate) fn run(rt: &HostRuntime) -> io::Result<()> {
     let mut input = Vec::new(rt.alloc());
     rt.stdin().read_to_end(&mut input)?;
     let mut rest: &[u8] = &input;
+    // line by line: what is left moves on, and no index is counted
     while !rest.is_empty() {
         let end = memchr::memchr(b'\n', rest).unwrap_or(rest.len());
         show(rt, &rest[..end])?;

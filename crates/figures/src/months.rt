@@ -1,4 +1,4 @@
-// The figures of the month: N1 and N2, M1, and the lengths of February and April.
+//! The figures of the month: N1 and N2, M1, and the lengths of February and April.
 ghost use Rattle.std.specs.Prelude.{◌≤◌};
 ghost use Rattle.month.specs.Limits.{most_annual, most_rate};
 ghost use Rattle.month.specs.Quantities.{most_contributions};

@@ -14,14 +14,14 @@ use Rattle.text.proofs.Stores.{stored_none}
 use Rattle.text.proofs.Unique.{line_at_unique, fields_taken_unique}
 use Rattle.fileform.specs.declared.row.Counted.{Counted}
 use Rattle.fileform.specs.Reading.{RowsRead}
-use Rattle.fileform.specs.Calls.{OneAt, CountedAt, RowsTaken}
+use Rattle.fileform.specs.Calls.{OneTaken, CountedAt, RowsTaken}
 
 -- `head::one_number`, `head::take_head`
-pub one_at_unique : (s : List ℕ) (o : Found (List ℕ)) (r q : Option Number) → OneAt s o r → OneAt s o q → r ≡ q
-one_at_unique s o None None a b = refl
-one_at_unique s o None (Some m) a b = absurd (never a b.1)
-one_at_unique s o (Some n) None a b = absurd (never b a.1)
-one_at_unique s o (Some n) (Some m) a b =
+pub one_taken_unique : (s : List ℕ) (o : Found (List ℕ)) (r q : Option Number) → OneTaken s o r → OneTaken s o q → r ≡ q
+one_taken_unique s o None None a b = refl
+one_taken_unique s o None (Some m) a b = absurd (never a b.1)
+one_taken_unique s o (Some n) None a b = absurd (never b a.1)
+one_taken_unique s o (Some n) (Some m) a b =
     let same : found (n.value ∷ []) (drop n.next s) ≡ found (m.value ∷ []) (drop m.next s) = sym a.1 ∙ b.1 in
     let value : n.value ≡ m.value = cc in
     let next : Some n.next ≡ Some m.next = line_at_unique s o (Some n.next) (Some m.next) (a.0, (n.value ∷ [], a.1)) (b.0, (m.value ∷ [], b.1)) in

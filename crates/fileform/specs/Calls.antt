@@ -12,9 +12,9 @@ use Rattle.fileform.specs.Reading.{RowsRead}
 use Rattle.fileform.specs.Writing.{rows_text}
 
 -- the number of a line with one field, with the offset behind the line, or none
-abbrev pub OneAt : List ℕ → Found (List ℕ) → Option Number → Type 0
-OneAt s o None = o ≡ missing
-OneAt s o (Some n) = (n.next ≤ length s) × (o ≡ found (n.value ∷ []) (drop n.next s))
+abbrev pub OneTaken : List ℕ → Found (List ℕ) → Option Number → Type 0
+OneTaken s o None = o ≡ missing
+OneTaken s o (Some n) = (n.next ≤ length s) × (o ≡ found (n.value ∷ []) (drop n.next s))
 
 -- rows that were counted in the text s, and the offset behind them
 pub record CountedAt (s : List ℕ) (r : RowsRead) (c : Counted) : Type 0 where

@@ -1,4 +1,4 @@
-// The rows of one kind of line, for any key and width: counted, stored, measured and written.
+//! The rows of one kind of line, for any key and width: counted, stored, measured and written.
 ghost use Rattle.std.specs.Prelude.{◌≡◌, ◌+◌, ◌*◌, ◌≤◌, length, drop};
 ghost use Rattle.text.specs.Lines.{line, line_text};
 ghost use Rattle.text.specs.Places.{PutAt, Sized};
@@ -6,7 +6,7 @@ ghost use Rattle.fileform.specs.Reading.{row_lines};
 ghost use Rattle.fileform.specs.Writing.{rows_text};
 ghost use Rattle.fileform.specs.Calls.{CountedAt, RowsTaken};
 
-// How many rows were counted, and the offset behind them.
+/// How many rows were counted, and the offset behind them.
 #[derive(Clone, Copy)]
 pub struct Counted {
     pub count: usize,
@@ -51,7 +51,8 @@ pub(crate) fn take_rows(
     i
 }
 
-// Adds the bytes of so many rows to a size, up to the cap.
+/// Adds the bytes of so many rows to a size, up to the cap.
+/// `count` stands beside `words`, and the rows are cut by their place: `chunks_exact` would ask for a width above 0.
 #[tactic(auto, using(crate::proofs::RowWalks::length_on, crate::proofs::RowWalks::text_done, crate::proofs::RowWalks::row_within))]
 pub fn rows_size(
     key: &[u8],
@@ -73,7 +74,8 @@ pub fn rows_size(
     size
 }
 
-// Writes so many rows at `at`, and answers the place behind them.
+/// Writes so many rows at `at`, and answers the place behind them.
+/// `count` stands beside `words`, and the rows are cut by their place: `chunks_exact` would ask for a width above 0.
 #[tactic(auto, using(crate::proofs::RowWalks::row_within, crate::proofs::RowWalks::put_on, crate::proofs::RowWalks::text_done, crate::proofs::RowWalks::length_on, text::proofs::Stores::stored_none))]
 pub fn put_rows(
     key: &[u8],

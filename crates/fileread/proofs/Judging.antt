@@ -47,12 +47,12 @@ module _ {s : List ℕ} where
       rows_are = ap sum counts_are ∙ sum_counts second.its
 
       -- the rows of a text are few enough to be added up
-      pub few_rows : sum counts < 2 ^ 64
+      few_rows : sum counts < 2 ^ 64
       few_rows = rw rows_are (month_rows second.its back.fit)
 
-      pub lines_read : length lent ≡ head_count → {rows : ℕ} → rows ≡ sum counts → {held : Head} → held ≡ head_read head
-          → LinesRead s (record { held = record { head = held; counts = counts }; rows = rows; body = body; last = last })
-      lines_read room-head added q =
+      pub lines_read : length lent ≡ head_count → {held : Head} → held ≡ head_read head
+          → LinesRead s (record { held = record { head = held; counts = counts }; body = body; last = last })
+      lines_read room-head q =
           let hb : HeadsBack month_form.heads s first.its (drop body s) =
           heads_back (length s) month_form.heads s first.its (drop body s) first.read in
           let head-is : head ≡ first.its = first.kept_is ∙ stored_all lent first.its (hb.one_each ∙ sym room-head) in
@@ -61,7 +61,8 @@ module _ {s : List ℕ} where
             contents = record { head = first.its; tables = second.its };
             left = reading_on month_form s first.its (drop body s) second.its (drop last s) first.read second.read;
             answers = ap₂ answer (q ∙ ap head_read head-is) counts_are;
-            rows_are = sym rows_are ∙ sym added;
+            rows_are = sym rows_are;
+            few = few_rows;
             inside = first.inside;
             tables = second.read;
             last_inside = second.inside;

@@ -24,7 +24,6 @@ use Rattle.text.specs.Numbers.{found, missing}
 use Rattle.text.specs.Lines.{line}
 use Rattle.text.specs.Places.{fields_of, stored}
 use Rattle.text.specs.Readers.{EndsAt}
-use Rattle.text.proofs.Numbers.{never}
 use Rattle.text.proofs.Lines.{Line, line_back}
 use Rattle.text.proofs.Places.{drop_next, drop_end}
 use Rattle.text.proofs.Stores.{stored_none, stored_one, stored_append, stored_is}
@@ -138,9 +137,6 @@ module _ (s lent : List ℕ) (ends : Ends) (a : EndsAt s 0 (head_key 0) (head_ke
   month_stop z = head_stop s (first_lines s) lent lent 0 0 (omega arith) (head_key 0) (drop 1 head_keys) start (a.first_is.unfit z)
 
   module _ (d : ends.first ≢ 0) where
-    pub month_there : line (head_key 0) 1 s ≢ missing
-    month_there e = never e (a.first_is.fits d).1
-
     month_next : (one : List ℕ) → one ≡ stored lent 0 (fields_of (line (head_key 0) 1 s))
         → Walking (first_lines s) (head_lines (length s) (drop 1 head_keys) (drop ends.first s)) itself lent one 1
     month_next one e =
@@ -155,9 +151,6 @@ module _ (s lent : List ℕ) (ends : Ends) (a : EndsAt s 0 (head_key 0) (head_ke
         (a.second_is.unfit z)
 
     module _ (f : ends.second ≢ ends.first) where
-      pub days_there : line (head_key 1) 1 (drop ends.first s) ≢ missing
-      days_there e = never e (a.second_is.fits f).1
-
       pub days_next : (one two : List ℕ) → one ≡ stored lent 0 (fields_of (line (head_key 0) 1 s))
           → two ≡ stored one 1 (fields_of (line (head_key 1) 1 (drop ends.first s)))
           → Walking (first_lines s) (head_lines (length s) (drop 2 head_keys) (drop ends.second s)) itself lent two 2

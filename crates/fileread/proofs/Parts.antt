@@ -5,6 +5,7 @@ use mathlib.Core.List.{List, []}
 use Prim.Native.Nat.{ℕ, ◌*◌}
 use lib.ListN.{length, drop, get_or-map}
 use borrow.Author.Tests.{eq-eqb, ne_eqb}
+use Rattle.std.specs.List.{sum}
 use Rattle.lists.specs.Sums.{at}
 use Rattle.std.specs.Prelude.{Result, Ok, Err}
 use Rattle.answer.specs.declared.Answer.{Answer}
@@ -72,14 +73,14 @@ module _ (text : List ℕ) (lent : Tables) where
                 (in_turn_all (λ table. full_size table (length (words_of lent table))) (ap (λ (a : Answer). a.number) (sym room)) table);
           }
 
-      module _ (r : Result (Unit {0}) Refused) (ended : Ended month_form.last text (drop walk.last text) walk.rows r) where
+      module _ (r : Result (Unit {0}) Refused) (ended : Ended month_form.last text (drop walk.last text) (sum walk.held.counts) r) where
         whole : reading month_form text ≡ ended_as lines.contents r
         whole = lines.left ∙ ended lines.contents lines.rows_are
 
-      pub read_cut : (r : Refused) → Ended month_form.last text (drop walk.last text) walk.rows (Err r) → Reads text lent lent (held_reading (Err r))
+      pub read_cut : (r : Refused) → Ended month_form.last text (drop walk.last text) (sum walk.held.counts) (Err r) → Reads text lent lent (held_reading (Err r))
       read_cut r ended = read_refused r (whole (Err r) ended)
 
-      pub read_filled : Ended month_form.last text (drop walk.last text) walk.rows (Ok tt) → (after : Tables) → FilledFrom text walk.body lent after
+      pub read_filled : Ended month_form.last text (drop walk.last text) (sum walk.held.counts) (Ok tt) → (after : Tables) → FilledFrom text walk.body lent after
           → Reads text lent after (held_reading (Ok walk.held))
       read_filled ended after f =
           let outcome : read_outcome text lent ≡ got lines.contents [] = by_text ∙ whole (Ok tt) ended in

@@ -1,7 +1,7 @@
 -- What the parts of `read` say among themselves, in terms of the text from an offset on. A reader who wants to know what is promised of
 -- `read` needs none of it.
 -- Assumes nothing.
-use Rattle.std.specs.Prelude.{◌≡◌, Result, Ok, Err, List, [], ℕ, ◌*◌, ◌≤◌, length, drop}
+use Rattle.std.specs.Prelude.{◌≡◌, Result, Ok, Err, List, [], ℕ, ◌*◌, ◌^◌, ◌≤◌, ◌<◌, length, drop, sum}
 use Rattle.lists.specs.Sums.{at}
 use Rattle.answer.specs.declared.Answer.{Answer}
 use Rattle.answer.specs.declared.Refused.{Refused}
@@ -31,12 +31,14 @@ abbrev pub Walked : {A : Type 0} → List ℕ → Outcome A → (A → List ℕ)
 Walked s o kept lent (Ok next) after = WentOn s o kept lent next after
 Walked s o kept lent (Err r) after = o ≡ refused (refused_answer r)
 
--- every line in front of the last one: what they hold, how many rows that is, and where the tables and the last line begin
+-- every line in front of the last one: what they hold, how many rows that is, which is few enough to be added up, and where the tables
+-- and the last line begin
 pub record LinesRead (s : List ℕ) (walk : FirstWalk) : Type 0 where
   pub contents : Contents
   pub left : reading month_form s ≡ ending (length s) month_form.last contents (drop walk.last s)
   pub answers : held_reading (Ok walk.held) ≡ read_answer (got contents [])
-  pub rows_are : rows_in_all contents.tables ≡ walk.rows
+  pub rows_are : rows_in_all contents.tables ≡ sum walk.held.counts
+  pub few : sum walk.held.counts < 2 ^ 64
   pub inside : walk.body ≤ length s
   pub tables : table_lines month_form.kinds (drop walk.body s) ≡ got contents.tables (drop walk.last s)
   pub last_inside : walk.last ≤ length s

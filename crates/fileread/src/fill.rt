@@ -1,11 +1,11 @@
-// The second walk over a text, which stores its rows.
+//! The second walk over a text, which stores its rows.
 ghost use Rattle.tables.specs.Shape.{tables_of};
 ghost use Rattle.fileread.specs.Steps.{Ready, FilledFrom};
 
 use fileform::table;
 use tables::{TABLES, Table};
 
-// Stores the rows of every table of a text whose tables begin at `body` and have so many rows, by the table's place.
+/// Stores the rows of every table of a text whose tables begin at `body` and have so many rows, by the table's place.
 pub fn fill(
     text: &[u8],
     body: usize,

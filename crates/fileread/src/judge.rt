@@ -1,4 +1,4 @@
-// The first walk over a text: every line is judged, the rows are counted, and the numbers of the first lines taken.
+//! The first walk over a text: every line is judged, the rows are counted, and the numbers of the first lines taken.
 ghost use Rattle.std.specs.Prelude.{◌≡◌, ◌^◌, ◌<◌, ◌≤◌, length, drop, sum};
 ghost use Rattle.answer.specs.Numbers as numbers;
 ghost use Rattle.answer.specs.Turns.{refusal};
@@ -75,17 +75,16 @@ fn rows_in_all(counts: &[usize]) -> u64
     counts.iter().sum::<usize>() as u64
 }
 
-// What the first walk finds in front of the last line: what the text holds, how many rows that is, and where the tables and the last
-// line begin.
+/// What the first walk finds in front of the last line: what the text holds, and where the tables and the last line begin.
 #[derive(Clone, Copy)]
 pub struct FirstWalk {
     pub held: Held,
-    pub rows: u64,
     pub body: usize,
     pub last: usize,
 }
 
-// Judges every line in front of the last.
+/// Judges every line in front of the last.
+#[tactic(auto, using(crate::proofs::Judging::judged_heads, crate::proofs::Judging::judged_tables, crate::proofs::Judging::lines_read))]
 pub fn judge_lines(text: &[u8]) -> Result<FirstWalk, Refused>
     ensures { LinesJudged text.now result }
 {
@@ -93,21 +92,20 @@ pub fn judge_lines(text: &[u8]) -> Result<FirstWalk, Refused>
     let mut counts = [0usize; TABLES];
     let body = judge_heads(text, &mut head)?;
     let last = judge_tables(text, body, &mut counts)?;
-    let rows = rows_in_all(&counts);
     let head = Head::from(head);
     Ok(FirstWalk {
         held: Held { head, counts },
-        rows,
         body,
         last,
     })
 }
 
-// The last line, with the number of rows, and nothing behind it.
-pub fn judge_end(text: &[u8], at: usize, total: u64) -> Result<(), Refused>
-    requires { at ≤ length text.now }
-    ensures { Ended month_form.last text.now (drop at text.now) total result }
+/// The last line, with the number of rows in all, and nothing behind it.
+pub fn judge_end(text: &[u8], at: usize, counts: &[usize]) -> Result<(), Refused>
+    requires { (at ≤ length text.now) × (sum counts.now < 2 ^ 64) }
+    ensures { Ended month_form.last text.now (drop at text.now) (sum counts.now) result }
 {
+    let total = rows_in_all(counts);
     let number = head::one_number(text, at, keys::END).ok_or(unfit(at))?;
     if number.value != total {
         return Err(unfit(at));

@@ -1,7 +1,7 @@
-// Reading a month file: `read` takes a file's bytes apart into a month's head and tables. It knows the file's form alone and judges no
-// range. It walks the text twice: the first walk judges every line and counts the rows, the second stores them, so that a refused
-// file changes no lent word. `specs/Calls.antt` has what `read` answers and leaves, and `specs/Steps.antt` what its parts say among
-// themselves.
+//! Reading a month file: `read` takes a file's bytes apart into a month's head and tables. It knows the file's form alone and judges no
+//! range. It walks the text twice: the first walk judges every line and counts the rows, the second stores them, so that a refused
+//! file changes no lent word. `specs/Calls.antt` has what `read` answers and leaves, and `specs/Steps.antt` what its parts say among
+//! themselves.
 #![tactic(auto)]
 
 ghost use Rattle.tables.specs.Shape.{tables_of};
@@ -14,17 +14,17 @@ mod fill;
 mod judge;
 mod room;
 
-// What an accepted file holds: the head, and each table's number of rows, by the table's place.
+/// What an accepted file holds: the head, and each table's number of rows, by the table's place.
 #[derive(Clone, Copy, Debug, PartialEq, Eq)]
 pub struct Held {
     pub head: Head,
     pub counts: [usize; TABLES],
 }
 
-// Reads a month file. ROOM where a table is lent below its full size, naming the first; then the lines in turn: TEXT where a line
-// doesn't fit, with its offset, COUNT where a table has a row too many, with its limit. Accepted: the head, each table's number of
-// rows, and those rows stored at the front of the lent tables. Refused: no lent word is changed.
-// Each table is a parameter of its own, here and in `fill`: an array of `&mut` slices gets no proof where it is handed on.
+/// Reads a month file. ROOM where a table is lent below its full size, naming the first; then the lines in turn: TEXT where a line
+/// doesn't fit, with its offset, COUNT where a table has a row too many, with its limit. Accepted: the head, each table's number of
+/// rows, and those rows stored at the front of the lent tables. Refused: no lent word is changed.
+/// Each table is a parameter of its own, here and in `fill`: an array of `&mut` slices gets no proof where it is handed on.
 pub fn read(
     text: &[u8],
     zones: &mut [u64],
@@ -47,7 +47,7 @@ pub fn read(
         firm.len(),
     ])?;
     let walk = judge::judge_lines(text)?;
-    judge::judge_end(text, walk.last, walk.rows)?;
+    judge::judge_end(text, walk.last, &walk.held.counts)?;
     let held = walk.held;
     fill::fill(
         text,

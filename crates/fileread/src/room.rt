@@ -1,4 +1,4 @@
-// ROOM: whether each table is lent at full size.
+//! ROOM: whether each table is lent at full size.
 ghost use Rattle.answer.specs.Results.{Answers};
 ghost use Rattle.fileread.specs.Calls.{full_size};
 ghost use Rattle.fileread.specs.Steps.{rooms_in_turn};
@@ -16,7 +16,7 @@ fn room_of(table: Table, lent: usize) -> Result<(), Refused>
     Ok(())
 }
 
-// ROOM for the first table that is lent below its full size, each with so many words, by the table's place.
+/// ROOM for the first table that is lent below its full size, each with so many words, by the table's place.
 pub fn judge_room(lengths: [usize; TABLES]) -> Result<(), Refused>
     ensures { Answers result (rooms_in_turn lengths) }
 {

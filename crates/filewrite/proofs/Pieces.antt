@@ -60,9 +60,6 @@ pub record Measuring (from : ℕ → List ℕ) (before cap size k : ℕ) : Type 
   pub capped : size ≤ cap
   pub whole : (m : ℕ) → Sized size (from k) cap m → Sized before (from 0) cap m
 
-pub measure_start : (from : ℕ → List ℕ) (before cap : ℕ) → before ≤ cap → Measuring from before cap before 0
-measure_start from before cap h = record { capped = h; whole = λ m e. e }
-
 module _ {from : ℕ → List ℕ} {before cap size k : ℕ} (w : Measuring from before cap size k) where
   pub measure_next : {piece : List ℕ} → Piece from k piece → (n : ℕ) → Sized size piece cap n → Measuring from before cap n (k + 1)
   measure_next {piece} p n s =

@@ -1,4 +1,5 @@
-// The text of a month, measured and written: the first lines, the tables, the last line.
+//! The text of a month, measured and written: the first lines, the tables, the last line.
+//! By two walks: one for both would hold the lent bytes in a struct, and beside a `&mut` stands no ghost field.
 ghost use Rattle.std.specs.Prelude.{◌≡◌, [], ◌∷◌, ◌+◌, ◌≤◌, length};
 ghost use Rattle.tables.specs.Shape.{tables_now};
 ghost use Rattle.text.specs.Lines.{line_text};
@@ -74,7 +75,7 @@ fn put_end(total: u64, out: &mut [u8], at: usize) -> usize
     text::line::put_line(keys::END, &[total], out, at)
 }
 
-// The length of a month's text, up to a cap.
+/// The length of a month's text, up to a cap.
 pub fn text_size<'a>(head: Head, tables: [&'a [u64]; TABLES], cap: usize) -> usize
     ensures { Sized 0 (month_text head (tables_now tables.entry)) cap result }
 {
@@ -83,7 +84,7 @@ pub fn text_size<'a>(head: Head, tables: [&'a [u64]; TABLES], cap: usize) -> usi
     end_size(rows::rows_in_all(tables), rows, cap)
 }
 
-// Writes a month's text to the front of `out`, and answers its length.
+/// Writes a month's text to the front of `out`, and answers its length.
 pub fn put_text<'a>(head: Head, tables: [&'a [u64]; TABLES], out: &mut [u8]) -> usize
     requires { 0 + length (month_text head (tables_now tables)) ≤ length out.old }
     ensures { PutAt out.old 0 (month_text head (tables_now tables.entry)) result out.new }

@@ -1,4 +1,4 @@
-// How many rows there are in all, which the last line says.
+//! How many rows there are in all, which the last line says.
 ghost use Rattle.std.specs.Prelude.{◌≡◌};
 ghost use Rattle.tables.specs.Shape.{tables_now};
 ghost use Rattle.fileform.specs.Reading.{rows_in_all};
@@ -14,7 +14,7 @@ fn rows_of(table: Table, words: &[u64]) -> u64
     tables::rows_in(table, words.len()) as u64
 }
 
-// How many rows there are in all.
+/// How many rows there are in all.
 pub fn rows_in_all<'a>(tables: [&'a [u64]; TABLES]) -> u64
     ensures { result ≡ rows_in_all (all_rows (tables_now tables.entry)) }
 {

@@ -1,6 +1,6 @@
-// Dividing a pot among the members of a group, a zone's owners or a zone's accounts, and adding the amounts to a column of words;
-// and one such division for each group in turn. A group is the whole list of members with weight 0 for all others, so that an
-// amount goes straight to its member's word. `specs/` says what each member has, `proofs/Laws.antt` what follows from it.
+//! Dividing a pot among the members of a group, a zone's owners or a zone's accounts, and adding the amounts to a column of words;
+//! and one such division for each group in turn. A group is the whole list of members with weight 0 for all others, so that an
+//! amount goes straight to its member's word. `specs/` says what each member has, `proofs/Laws.antt` what follows from it.
 #![tactic(auto)]
 
 ghost use Rattle.std.specs.Prelude.{◌≡◌, ◌+◌, ◌≤◌, ◌<◌, ◌^◌, length};
@@ -17,23 +17,24 @@ pub use together::GroupPots;
 pub mod columns;
 mod together;
 
-// How many members there can be.
+/// How many members there can be.
 pub const MOST_MEMBERS: usize = 64;
 
-// Divides a pot among all by weight and adds each share to its word of the column. Refuses with BIG, then BASE; a refusal leaves
-// the column as it was.
+/// Divides a pot among all by weight and adds each share to its word of the column. Refuses with BIG, then BASE; a refusal leaves
+/// the column as it was.
 pub fn divide_all(pot: u64, weights: &[u64], column: &mut [u64]) -> Result<(), Refusal>
     requires { Addable (length weights.now) column.old }
     ensures { Added pot weights.now column.old column.new (result_number result) }
 {
     let count = weights.len();
+    // No heap here: an array of the most there can be, and the front of it.
     let mut shares = [0u64; MOST_MEMBERS];
     division::divide(pot, weights, &mut shares)?;
     columns::add(&shares[..count], column);
     Ok(())
 }
 
-// The same among the members of one group.
+/// The same among the members of one group.
 pub fn divide_among(
     pot: u64,
     weights: &[u64],
@@ -57,6 +58,7 @@ fn go_through(lists: GroupPots, column: &mut [u64], place: u64) -> Result<(), Re
     requires numbers_bound { place + length lists.numbers.now < 2 ^ 64 }
     ensures { GoneThrough (pots_in lists.entry) place column.new (result_answer result) }
 {
+    // Each fact of this loop goes by the index `z`, which a zip with the pots would not have at hand.
     for (z, &number) in lists.numbers.iter().enumerate() {
         let divided = divide_among(lists.pots[z], lists.weights, lists.groups, number, column);
         placed(divided, Part::Divisions, place + z as u64)?;
@@ -64,9 +66,9 @@ fn go_through(lists: GroupPots, column: &mut [u64], place: u64) -> Result<(), Re
     Ok(())
 }
 
-// One division for each group in turn: each pot among the members of its group, by weight. Writes what each member has from all
-// groups to the first words of the column. Refuses with BIG, then BASE, at the first division that is refused; the divisions'
-// places count up from `place`. A refusal writes nothing.
+/// One division for each group in turn: each pot among the members of its group, by weight. Writes what each member has from all
+/// groups to the first words of the column. Refuses with BIG, then BASE, at the first division that is refused; the divisions'
+/// places count up from `place`. A refusal writes nothing.
 pub fn each_group(lists: GroupPots, column: &mut [u64], place: u64) -> Result<(), Refused>
     requires weights_in_bounds { length lists.weights.now ≤ length column.old }
     requires numbers_bound { place + length lists.numbers.now < 2 ^ 64 }

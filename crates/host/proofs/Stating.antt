@@ -1,13 +1,10 @@
 -- The statement's call: its length is small enough to stand above a number, and what it leaves where there is room.
 -- Assumes nothing.
 use mathlib.Core.Path.{◌≡◌, refl, sym, ap, ap₂, ◌∙◌}
-use mathlib.Core.Logic.{⊎_elim}
 use mathlib.Core.List.{List, [], ◌++◌}
 use Prim.Native.Nat.{ℕ, ◌≤◌, ◌<◌}
 use native.Mathlib.Nat.{le_trans, le_of_eq}
-use native.Mathlib.Omega.{arith}
 use lib.ListN.{length, drop}
-use Rattle.lists.proofs.Ranks.{lt_or_le}
 use Rattle.answer.specs.declared.Answer.{Answer}
 use Rattle.answer.specs.Numbers.{ROOM, HEAD}
 use Rattle.answer.proofs.Turns.{refuse_none, refuse_number}
@@ -25,20 +22,6 @@ module _ (text before after : List ℕ) (s : Shown) (shows : Shows (statement_of
   pub length_small : s.length ≤ most_shown
   length_small =
       le_trans (le_of_eq shows.length_is) (le_trans (fitting_short (statement_of text) (length before)) (statement_is_short text))
-
-  -- ROOM is 2, acceptance 0
-  pub number_small : s.answer.number ≤ 2
-  number_small =
-      ⊎_elim
-      (λ (h : length before < length (statement_of text)).
-      let e : s.answer.number ≡ 2 =
-      ap (λ (a : Answer). a.number) (shows.answers ∙ sym (room_short HEAD (length (statement_of text)) (length before) h)) ∙ refuse_number ROOM HEAD 0 in
-      omega arith)
-      (λ (h : length (statement_of text) ≤ length before).
-      let e : s.answer.number ≡ 0 =
-      ap (λ (a : Answer). a.number) (shows.answers ∙ sym (room_enough HEAD (length (statement_of text)) (length before) h)) ∙ refuse_number 0 HEAD 0 in
-      omega arith)
-      (lt_or_le (length before) (length (statement_of text)))
 
   pub stated : (r : ℕ) → r ≡ word s.answer.number s.length → HostStated text before after r
   stated r e =

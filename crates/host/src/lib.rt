@@ -1,12 +1,10 @@
-// The phone app's calls: the division and the check on a pot and byte slices, eight bytes to a number, low byte first, and the
-// statement of a month file. The answer is one word: the refusal's number in its low byte, 0 where accepted, and the call's value
-// in the bits above. A refusal writes no byte. The calls keep nothing between them.
+//! The phone app's calls: the division and the check on a pot and byte slices, eight bytes to a number, low byte first, and the
+//! statement of a month file. The answer is one word: the refusal's number in its low byte, 0 where accepted, and the call's value
+//! in the bits above. A refusal writes no byte. The calls keep nothing between them.
 #![tactic(auto)]
 
-ghost use Rattle.std.specs.Prelude.{◌≡◌, ◌/◌, ◌≤◌, length};
+ghost use Rattle.std.specs.Prelude.{◌≡◌};
 ghost use Rattle.answer.specs.Results.{result_number};
-ghost use Rattle.division.specs.Limits.{most_weights};
-ghost use Rattle.words.specs.Words.{word_bytes, WholeWords};
 ghost use Rattle.host.specs.Calls.{HostDivided, host_verdict, HostStated, checked_word};
 ghost use Rattle.host.specs.Steps.{Counted};
 
@@ -35,34 +33,19 @@ fn count_words(weights: &[u8], others: &[u8]) -> Result<usize, Refusal>
     Ok(count)
 }
 
-// Divides in lent working words: the weights' numbers go to the first, the shares to the second, and from there to `amounts`.
-fn divide_words(
-    pot: u64,
-    weights: &[u8],
-    amounts: &mut [u8],
-    numbers: &mut [u64],
-    shares: &mut [u64],
-) -> Result<(), Refusal>
-    requires whole_words { WholeWords weights.now amounts.old }
-    requires working_words { (length weights.now / word_bytes ≤ most_weights) × (length numbers.old ≡ most_weights) × (length shares.old ≡ most_weights) }
-    ensures { HostDivided pot weights.now amounts.old amounts.new (result_number result) }
-{
-    let count = weights.len() / words::WORD;
-    words::load(weights, numbers);
-    let room = (amounts.len() / words::WORD).min(MOST_WEIGHTS);
-    division::divide(pot, &numbers[..count], &mut shares[..room])?;
-    words::store(&shares[..count], amounts);
-    Ok(())
-}
-
 // Divides a pot by weights and writes the shares over the first bytes of `amounts`.
 fn divide(pot: u64, weights: &[u8], amounts: &mut [u8]) -> Result<(), Refusal>
     ensures { HostDivided pot weights.now amounts.old amounts.new (result_number result) }
 {
-    count_words(weights, amounts)?;
+    let count = count_words(weights, amounts)?;
+    // no heap here: an array of the most there can be
     let mut numbers = [0u64; MOST_WEIGHTS];
     let mut shares = [0u64; MOST_WEIGHTS];
-    divide_words(pot, weights, amounts, &mut numbers, &mut shares)
+    words::load(weights, &mut numbers);
+    let room = (amounts.len() / words::WORD).min(MOST_WEIGHTS);
+    division::divide(pot, &numbers[..count], &mut shares[..room])?;
+    words::store(&shares[..count], amounts);
+    Ok(())
 }
 
 // Says whether the amounts are a closest division of the pot by the weights.
@@ -73,6 +56,7 @@ fn check(pot: u64, weights: &[u8], amounts: &[u8]) -> Result<bool, Refusal>
     if amounts.len() != weights.len() {
         return Err(Refusal::Count);
     }
+    // no heap here: an array of the most there can be
     let mut numbers = [0u64; MOST_WEIGHTS];
     let mut handed = [0u64; MOST_WEIGHTS];
     words::load(weights, &mut numbers);
@@ -80,8 +64,8 @@ fn check(pot: u64, weights: &[u8], amounts: &[u8]) -> Result<bool, Refusal>
     verdict::check(pot, &numbers[..count], &handed[..count])
 }
 
-// Divides a pot by weights and writes the shares over the first bytes of `amounts`. Refuses with COUNT (a byte length that
-// is no multiple of eight, more than 64 weights), ROOM, BIG and BASE, in this order.
+/// Divides a pot by weights and writes the shares over the first bytes of `amounts`. Refuses with COUNT (a byte length that
+/// is no multiple of eight, more than 64 weights), ROOM, BIG and BASE, in this order.
 #[unsafe(no_mangle)]
 pub extern "C" fn noketualo_divide(pot: u64, weights: &[u8], amounts: &mut [u8]) -> u64
     ensures { HostDivided pot weights.now amounts.old amounts.new result }
@@ -92,8 +76,8 @@ pub extern "C" fn noketualo_divide(pot: u64, weights: &[u8], amounts: &mut [u8])
     }
 }
 
-// Says whether the amounts are a closest division of the pot by the weights. Refuses with COUNT (a byte length that is no
-// multiple of eight, more than 64 weights, not as many amounts as weights), BIG and BASE, in this order.
+/// Says whether the amounts are a closest division of the pot by the weights. Refuses with COUNT (a byte length that is no
+/// multiple of eight, more than 64 weights, not as many amounts as weights), BIG and BASE, in this order.
 #[unsafe(no_mangle)]
 pub extern "C" fn noketualo_check(pot: u64, weights: &[u8], amounts: &[u8]) -> u64
     ensures { result ≡ host_verdict pot weights.now amounts.now }
@@ -105,8 +89,8 @@ pub extern "C" fn noketualo_check(pot: u64, weights: &[u8], amounts: &[u8]) -> u
     }
 }
 
-// Writes the statement of a month file to the front of `out`, and answers its length in the bits above the low byte. Refuses with
-// ROOM where `out` is too short for the statement; a file that is refused has a statement of its own.
+/// Writes the statement of a month file to the front of `out`, and answers its length in the bits above the low byte. Refuses with
+/// ROOM where `out` is too short for the statement; a file that is refused has a statement of its own.
 #[unsafe(no_mangle)]
 pub extern "C" fn noketualo_statement(text: &[u8], out: &mut [u8]) -> u64
     ensures { HostStated text.now out.old out.new result }

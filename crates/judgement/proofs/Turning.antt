@@ -53,7 +53,7 @@ then_then a b c =
     (λ (d : a.number ≢ 0). then_stays {a = a then b} d c (then_first a b d) ∙ sym (then_first a (b then c) d))
     (zero_or_not a.number)
 
--- of two looks the refusal of the first is passed up, or of the second behind it, or there is none
+-- of two looks the refusal of the first is passed up, or the outcome is that of the second behind it
 module _ {A : Type 0} (r : Result A refused.Refused) (e : refused.Refused) (up : IsErrAnd r (λ x. x ≡ e)) where
   passed_up : result_answer r ≡ refused_answer e
   passed_up = let told = err_from_is_err_and r up in ap result_answer told.1 ∙ ap refused_answer told.2
@@ -61,11 +61,8 @@ module _ {A : Type 0} (r : Result A refused.Refused) (e : refused.Refused) (up :
   pub first_refused : (a b : Answer) → refused_answer e ≡ a → Answers r (a then b)
   first_refused a b its = passed_up ∙ sym (then_stays (refused_some e) b (sym its))
 
-  pub second_refused : (a b : Answer) → accepted ≡ a → refused_answer e ≡ b → Answers r (a then b)
-  second_refused a b fine its = passed_up ∙ sym (then_on (sym fine) (sym its))
-
-pub none_refused : (a b : Answer) → accepted ≡ a → accepted ≡ b → accepted ≡ (a then b)
-none_refused a b fine its = sym (then_on (sym fine) (sym its))
+pub second_given : {A : Type 0} (r : Result A refused.Refused) (a b : Answer) → accepted ≡ a → Answers r b → Answers r (a then b)
+second_given r a b fine its = its ∙ sym (then_on (sym fine) refl)
 
 -- a month that was looked up: there is one, or none
 month_found : (o : Option Month) (e : refused.Refused) (m : Month) → Ok m ≡ ok_or o e → o ≡ Some m

@@ -1,6 +1,6 @@
-// The judgement of a month's input: whole rows and limits, room in the lent outputs, the head, then every table row by row, until
-// the first refusal. What is not refused is a month of the calendar with its input good, and that month is the answer.
-// `specs/Good.antt` says what a good month is without any order of looking, and what is accepted is exactly that.
+//! The judgement of a month's input: whole rows and limits, room in the lent outputs, the head, then every table row by row, until
+//! the first refusal. What is not refused is a month of the calendar with its input good, and that month is the answer.
+//! `specs/Good.antt` says what a good month is without any order of looking, and what is accepted is exactly that.
 #![tactic(auto)]
 
 ghost use Rattle.tables.specs.Shape.{tables_now};
@@ -13,10 +13,10 @@ use tables::{Head, TABLES};
 
 mod turns;
 
-// Judges a month's input: COUNT for tables 1 to 6 and 10, ROOM for the outputs, whose lengths in words `charges` and `credits` are,
-// MONTH, RANGE of the non-zone rate and of the head's numbers behind it, then tables 1 to 6 and 10 row by row, in a row RANGE, ORDER,
-// LINK, PAIR. The first refusal is the answer; where there is none the answer is the month of the head. Any input is judged, and
-// nothing of it is changed.
+/// Judges a month's input: COUNT for tables 1 to 6 and 10, ROOM for the outputs, whose lengths in words `charges` and `credits` are,
+/// MONTH, RANGE of the non-zone rate and of the head's numbers behind it, then tables 1 to 6 and 10 row by row, in a row RANGE, ORDER,
+/// LINK, PAIR. The first refusal is the answer; where there is none the answer is the month of the head. Any input is judged, and
+/// nothing of it is changed.
 pub fn judge<'a>(
     head: Head,
     tables: [&'a [u64]; TABLES],

@@ -1,4 +1,4 @@
-// The looks in turn behind COUNT: ROOM, the head behind its month, and the tables row by row.
+//! The looks in turn behind COUNT: ROOM, the head behind its month, and the tables row by row.
 ghost use Rattle.std.specs.Prelude.{◌≡◌, false, ◌*◌, ◌<◌};
 ghost use Rattle.answer.specs.Numbers as numbers;
 ghost use Rattle.answer.specs.Numbers.{part_number};
@@ -13,7 +13,7 @@ use answer::{Part, Refusal, Refused, placed};
 use month::Month;
 use tables::{CHARGE_WIDTH, CREDIT_WIDTH, Head, LAST_WEEKDAY, MOST_RATE, TABLES, Table};
 
-// How many rows one of the tables has.
+// How many rows one of the tables has. `columns` has the like, but the judgement does not stand on that crate.
 fn rows_of<'a>(tables: [&'a [u64]; TABLES], table: Table) -> usize
     ensures { result ≡ rows table (words_of (tables_now tables.entry) table) }
 {
@@ -32,7 +32,7 @@ fn judge_output(part: Part, width: usize, count: usize, lent: usize) -> Result<(
     Ok(())
 }
 
-// ROOM for every account's charges, then for every owner's credits.
+/// ROOM for every account's charges, then for every owner's credits.
 pub fn judge_room<'a>(
     tables: [&'a [u64]; TABLES],
     charges: usize,
@@ -43,8 +43,7 @@ pub fn judge_room<'a>(
     let accounts = rows_of(tables, Table::Accounts);
     let owners = rows_of(tables, Table::Owners);
     judge_output(Part::Charges, CHARGE_WIDTH, accounts, charges)?;
-    judge_output(Part::Credits, CREDIT_WIDTH, owners, credits)?;
-    Ok(())
+    judge_output(Part::Credits, CREDIT_WIDTH, owners, credits)
 }
 
 // A number of the head is outside its range: the non-zone rate, the rates of firm service, the weekday of day 1.
@@ -59,7 +58,7 @@ fn head_outside(head: Head) -> bool
         || rows::outside(1, LAST_WEEKDAY, head.weekday)
 }
 
-// RANGE of the head's numbers other than its month.
+/// RANGE of the head's numbers other than its month.
 #[tactic(auto, unfolding(crate::specs::Judgement::head_looked, answer::specs::Turns::refuse))]
 pub fn judge_head(head: Head) -> Result<(), Refused>
     ensures { Answers result (head_looked false head) }
@@ -82,7 +81,7 @@ fn judge_rows<'a>(table: Table, month: Month, tables: [&'a [u64]; TABLES]) -> Re
     Ok(())
 }
 
-// Every table row by row, in the order of their numbers.
+/// Every table row by row, in the order of their numbers.
 pub fn judge_tables<'a>(month: Month, tables: [&'a [u64]; TABLES]) -> Result<(), Refused>
     ensures { Answers result (tables_in_turn (rows_judged month.days (tables_now tables.entry))) }
 {

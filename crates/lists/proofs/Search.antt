@@ -3,9 +3,8 @@
 use mathlib.Core.Path.{◌≡◌, refl, sym, ap, ◌∙◌}
 use mathlib.Core.Logic.{⊎_elim}
 use mathlib.Core.Bool.{Bool, true, false, not, true≢false, ◌&&◌, ◌||◌}
-use Prim.Native.Nat.{ℕ, zero, suc, ◌+◌, ◌≤◌, ◌<◌}
-use native.Mathlib.Nat.{le_step, lt-suc_self, le_antisymm}
-use native.Mathlib.Numerals.{add-one}
+use Prim.Native.Nat.{ℕ, zero, suc, ◌<◌}
+use native.Mathlib.Nat.{le_step, lt-suc_self}
 use borrow.Author.Tests.{not-true, not-false}
 use Rattle.lists.specs.Sums.{every, any}
 use Rattle.lists.proofs.Sums.{every_at, every_from}
@@ -54,15 +53,3 @@ pub any_found : (n : ℕ) (t : ℕ → Bool) → any n t ≡ true → (i : ℕ) 
 any_found n t e =
     let found = some_failing n (λ i. not (t i)) (not-true (every n (λ i. not (t i))) (sym (any_every n t) ∙ e)) in
     (found.0, found.1, not-false (t found.0) found.2)
-
--- what a search that counts up has shown: at the start, after one more position, and at the end
-pub none_start : (t : ℕ → Bool) → any 0 t ≡ false
-unfolding any
-none_start t = refl
-
-pub none_more : (n : ℕ) (t : ℕ → Bool) → any n t ≡ false → t n ≡ false → any (n + 1) t ≡ false
-unfolding any
-none_more n t e f = ap (λ m. any m t) (add-one n) ∙ (rw (e, f))
-
-pub none_end : (n i : ℕ) (t : ℕ → Bool) → i ≤ n → n ≤ i → any i t ≡ false → any n t ≡ false
-none_end n i t h k e = ap (λ m. any m t) (le_antisymm k h) ∙ e

@@ -1,5 +1,5 @@
-// What is looked at in one row of a table: the first fault that is there, in the order RANGE, ORDER, LINK, PAIR, refuses it. `ranges` has
-// the ranges of each table's entries, `order` the order of its rows, `rules` the other two.
+//! What is looked at in one row of a table: the first fault that is there, in the order RANGE, ORDER, LINK, PAIR, refuses it. `ranges` has
+//! the ranges of each table's entries, `order` the order of its rows, `rules` the other two.
 #![tactic(auto)]
 
 ghost use Rattle.std.specs.Prelude.{◌≡◌, ◌<◌};
@@ -15,7 +15,7 @@ mod order;
 mod ranges;
 mod rules;
 
-// Looks at row `i` of a table, in its month; the row's entries may name rows of other tables.
+/// Looks at row `i` of a table, in its month; the row's entries may name rows of other tables.
 #[tactic(auto, unfolding(crate::specs::Rows::row_of, crate::specs::Rows::row_number))]
 pub fn row<'a>(
     table: Table,
@@ -42,7 +42,7 @@ pub fn row<'a>(
     Ok(())
 }
 
-// An entry is outside its range.
+/// An entry is outside its range.
 pub fn outside(low: u64, high: u64, x: u64) -> bool
     ensures { result ≡ outside low high x }
 {

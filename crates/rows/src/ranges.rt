@@ -1,4 +1,4 @@
-// RANGE: an entry of a row outside its range, table by table.
+//! RANGE: an entry of a row outside its range, table by table.
 ghost use Rattle.std.specs.Prelude.{◌≡◌, ◌<◌};
 ghost use Rattle.tables.specs.declared.Table.TheVariants.{Zones, Owners, Units, Accounts, Loads, Reservations, Firm};
 ghost use Rattle.tables.specs.Shape.{rows};
@@ -25,8 +25,8 @@ fn zone_outside(zones: &[u64], i: usize) -> bool
     requires { i < rows Zones zones.now }
     ensures { result ≡ zone_outside zones.now i }
 {
-    let zone = entry(Table::Zones, ZONE_NUMBER, zones, i);
-    let rate = entry(Table::Zones, ZONE_RATE, zones, i);
+    let zone = entry(ZONE_NUMBER, zones, i);
+    let rate = entry(ZONE_RATE, zones, i);
     outside(1, LAST_ZONE, zone) || outside(0, MOST_RATE, rate)
 }
 
@@ -35,9 +35,9 @@ fn owner_outside(owners: &[u64], i: usize) -> bool
     requires { i < rows Owners owners.now }
     ensures { result ≡ owner_outside owners.now i }
 {
-    let owner = entry(Table::Owners, OWNER_NUMBER, owners, i);
-    let zone = entry(Table::Owners, OWNER_ZONE, owners, i);
-    let annual = entry(Table::Owners, OWNER_REQUIREMENT, owners, i);
+    let owner = entry(OWNER_NUMBER, owners, i);
+    let zone = entry(OWNER_ZONE, owners, i);
+    let annual = entry(OWNER_REQUIREMENT, owners, i);
     outside(1, LAST_OWNER, owner) || outside(1, LAST_ZONE, zone) || outside(0, MOST_ANNUAL, annual)
 }
 
@@ -45,10 +45,7 @@ fn owner_outside(owners: &[u64], i: usize) -> bool
 fn reserve_limit(service: u64) -> u64
     ensures { result ≡ reserve_limit service }
 {
-    if service == REACTIVE {
-        return 0;
-    }
-    MOST_RESERVE
+    if service == REACTIVE { 0 } else { MOST_RESERVE }
 }
 
 #[tactic(auto, unfolding(crate::specs::Rows::unit_outside))]
@@ -56,12 +53,12 @@ fn unit_outside(units: &[u64], i: usize) -> bool
     requires { i < rows Units units.now }
     ensures { result ≡ unit_outside units.now i }
 {
-    let unit = entry(Table::Units, UNIT_NUMBER, units, i);
-    let owner = entry(Table::Units, UNIT_OWNER, units, i);
-    let zone = entry(Table::Units, UNIT_ZONE, units, i);
-    let service = entry(Table::Units, UNIT_SERVICE, units, i);
-    let annual = entry(Table::Units, UNIT_REQUIREMENT, units, i);
-    let reserve = entry(Table::Units, UNIT_RESERVE, units, i);
+    let unit = entry(UNIT_NUMBER, units, i);
+    let owner = entry(UNIT_OWNER, units, i);
+    let zone = entry(UNIT_ZONE, units, i);
+    let service = entry(UNIT_SERVICE, units, i);
+    let annual = entry(UNIT_REQUIREMENT, units, i);
+    let reserve = entry(UNIT_RESERVE, units, i);
     outside(1, LAST_UNIT, unit)
         || outside(1, LAST_OWNER, owner)
         || outside(1, LAST_ZONE, zone)
@@ -75,9 +72,9 @@ fn account_outside(accounts: &[u64], i: usize) -> bool
     requires { i < rows Accounts accounts.now }
     ensures { result ≡ account_outside accounts.now i }
 {
-    let account = entry(Table::Accounts, ACCOUNT_NUMBER, accounts, i);
-    let customer = entry(Table::Accounts, ACCOUNT_CUSTOMER, accounts, i);
-    let zone = entry(Table::Accounts, ACCOUNT_ZONE, accounts, i);
+    let account = entry(ACCOUNT_NUMBER, accounts, i);
+    let customer = entry(ACCOUNT_CUSTOMER, accounts, i);
+    let zone = entry(ACCOUNT_ZONE, accounts, i);
     outside(1, LAST_ACCOUNT, account)
         || outside(1, LAST_CUSTOMER, customer)
         || outside(0, LAST_ZONE, zone)
@@ -89,9 +86,9 @@ fn load_outside(month: Month, loads: &[u64], i: usize) -> bool
     ensures { result ≡ load_outside month.days loads.now i }
 {
     let days = month.day_count();
-    let account = entry(Table::Loads, LOAD_ACCOUNT, loads, i);
-    let day = entry(Table::Loads, LOAD_DAY, loads, i);
-    let contribution = entry(Table::Loads, LOAD_CONTRIBUTION, loads, i);
+    let account = entry(LOAD_ACCOUNT, loads, i);
+    let day = entry(LOAD_DAY, loads, i);
+    let contribution = entry(LOAD_CONTRIBUTION, loads, i);
     outside(1, LAST_ACCOUNT, account)
         || outside(1, days, day)
         || outside(0, MOST_LOAD, contribution)
@@ -102,9 +99,9 @@ fn reservation_outside(words: &[u64], i: usize) -> bool
     requires { i < rows Reservations words.now }
     ensures { result ≡ reservation_outside words.now i }
 {
-    let account = entry(Table::Reservations, RESERVATION_ACCOUNT, words, i);
-    let reserved = entry(Table::Reservations, RESERVATION_RESERVED, words, i);
-    let curtailed = entry(Table::Reservations, RESERVATION_CURTAILED, words, i);
+    let account = entry(RESERVATION_ACCOUNT, words, i);
+    let reserved = entry(RESERVATION_RESERVED, words, i);
+    let curtailed = entry(RESERVATION_CURTAILED, words, i);
     outside(1, LAST_ACCOUNT, account)
         || outside(0, MOST_ENERGY, reserved)
         || outside(0, MOST_ENERGY, curtailed)
@@ -115,10 +112,7 @@ fn reservation_outside(words: &[u64], i: usize) -> bool
 fn last_first_day(term: u64, days: u64) -> u64
     ensures { result ≡ last_first_day term days }
 {
-    if term == MONTHLY {
-        return 1;
-    }
-    days
+    if term == MONTHLY { 1 } else { days }
 }
 
 #[tactic(auto, unfolding(crate::specs::Rows::firm_outside))]
@@ -127,11 +121,11 @@ fn firm_outside(month: Month, firm: &[u64], i: usize) -> bool
     ensures { result ≡ firm_outside month.days firm.now i }
 {
     let days = month.day_count();
-    let account = entry(Table::Firm, FIRM_ACCOUNT, firm, i);
-    let term = entry(Table::Firm, FIRM_TERM, firm, i);
-    let miso = entry(Table::Firm, FIRM_MISO, firm, i);
-    let first = entry(Table::Firm, FIRM_DAY, firm, i);
-    let capacity = entry(Table::Firm, FIRM_CAPACITY, firm, i);
+    let account = entry(FIRM_ACCOUNT, firm, i);
+    let term = entry(FIRM_TERM, firm, i);
+    let miso = entry(FIRM_MISO, firm, i);
+    let first = entry(FIRM_DAY, firm, i);
+    let capacity = entry(FIRM_CAPACITY, firm, i);
     outside(1, LAST_ACCOUNT, account)
         || outside(DAILY, MONTHLY, term)
         || outside(0, MISO, miso)
@@ -140,7 +134,7 @@ fn firm_outside(month: Month, firm: &[u64], i: usize) -> bool
         || outside(0, MOST_CAPACITY, capacity)
 }
 
-// An entry of row `i` of a table is outside its range, in its month.
+/// An entry of row `i` of a table is outside its range, in its month.
 pub fn row_outside(table: Table, month: Month, words: &[u64], i: usize) -> bool
     requires { i < rows table words.now }
     ensures { result ≡ row_outside month.days table words.now i }

@@ -1,7 +1,7 @@
-// One service, black start or reactive, over plain arrays: each zone's pot is split by all zone use and all non-zone use, the zone
-// side is shared among the zone's accounts by their zone parts, and the non-zone sides of all zones are one pot, shared among all
-// accounts by their non-zone parts. It knows no month: whoever calls it fills the parts. `specs/` says what each account is
-// charged, `proofs/Promises.antt` what follows from it.
+//! One service, black start or reactive, over plain arrays: each zone's pot is split by all zone use and all non-zone use, the zone
+//! side is shared among the zone's accounts by their zone parts, and the non-zone sides of all zones are one pot, shared among all
+//! accounts by their non-zone parts. It knows no month: whoever calls it fills the parts. `specs/` says what each account is
+//! charged, `proofs/Promises.antt` what follows from it.
 #![tactic(auto)]
 
 ghost use Rattle.std.specs.Prelude.{◌≡◌, [], ◌∷◌, ◌+◌, ◌*◌, ◌≤◌, ◌<◌, ◌^◌, length};
@@ -92,15 +92,16 @@ fn charge_all(lists: ServiceLists, column: &mut [u64], place: u64) -> Result<(),
     )
 }
 
-// Charges a service's pots to the accounts, and writes each account's charge to the first words of the column. Refuses with BIG,
-// then BASE, at the first division that is refused; from `place` on stand each zone's split and share, zone by zone, and last the
-// non-zone pot's division. A refusal writes nothing.
+/// Charges a service's pots to the accounts, and writes each account's charge to the first words of the column. Refuses with BIG,
+/// then BASE, at the first division that is refused; from `place` on stand each zone's split and share, zone by zone, and last the
+/// non-zone pot's division. A refusal writes nothing.
 pub fn charge(lists: ServiceLists, column: &mut [u64], place: u64) -> Result<(), Refused>
     requires zoneparts_in_bounds { length lists.zoneparts.now ≤ length column.old }
     requires numbers_bound { place + 2 * length lists.numbers.now < 2 ^ 64 }
     ensures { Served (service_in lists.entry) place column.old column.new (result_answer result) }
 {
     let count = lists.zoneparts.len();
+    // no heap here: an array of the most there can be
     let mut charges = [0u64; groups::MOST_MEMBERS];
     charge_all(lists, &mut charges, place)?;
     columns::store(&charges[..count], column);

@@ -1,8 +1,8 @@
-// The lists that a service is charged by.
+//! The lists that a service is charged by.
 ghost use Rattle.service.specs.Turn.{ServiceTogether};
 
-// The pot and the number of each zone, at most 64; the two parts of use, each with a sum that fits a word, and the zone of each
-// account, at most 64.
+/// The pot and the number of each zone, at most 64; the two parts of use, each with a sum that fits a word, and the zone of each
+/// account, at most 64. The lists stay side by side, since `division::divide` takes the weights as one slice.
 #[derive(Clone, Copy)]
 pub struct ServiceLists<'a> {
     pub pots: &'a [u64],

@@ -1,7 +1,7 @@
-// One service of a month, black start or reactive, by its number: the owners' credits for its units, and its charges to the
-// accounts, in columns with a word for each owner or account. The units' credits make the zones' pots here, and decide what of an
-// account's use is zone use; `service` divides the pots. `pool`'s `specs/Services.antt` says each credit and charge in the paper's words.
-#![tactic(auto)]
+//! One service of a month, black start or reactive, by its number: the owners' credits for its units, and its charges to the
+//! accounts, in columns with a word for each owner or account. The units' credits make the zones' pots here, and decide what of an
+//! account's use is zone use; `service` divides the pots. `pool`'s `specs/Services.antt` says each credit and charge in the paper's words.
+#![tactic(auto, using(lists::proofs::Entries::put_none, lists::proofs::Entries::put_suc, lists::proofs::Entries::put_long))]
 
 ghost use Rattle.std.specs.Prelude.{◌≡◌, ◌+◌, ◌*◌, ◌≤◌, ◌<◌, ◌^◌, length};
 ghost use Rattle.lists.specs.Sums.{at};
@@ -17,7 +17,6 @@ ghost use Rattle.services.specs.Steps.{service_lent, PartsFilled};
 
 use answer::Refused;
 use columns::entry_of;
-use lists::when_same;
 use month::Month;
 use service::ServiceLists;
 use tables::columns::{
@@ -31,18 +30,16 @@ fn credit_of<'a>(service: u64, month: Month, tables: [&'a [u64]; TABLES], i: usi
     requires { Creditable (units_input month.number (tables_now tables)) × (i < rows_of (tables_now tables) Units) }
     ensures { result ≡ credit_in (units_input month.number (tables_now tables.entry)) service i }
 {
-    let twelfth = month.twelfth(entry_of(tables, Table::Units, UNIT_REQUIREMENT, i));
-    let reserve = entry_of(tables, Table::Units, UNIT_RESERVE, i);
-    let credit = twelfth + reserve;
-    when_same(
-        entry_of(tables, Table::Units, UNIT_SERVICE, i),
-        service,
-        credit,
-    )
+    let twelfth = month.twelfth(entry_of(tables, UNIT_REQUIREMENT, i));
+    let reserve = entry_of(tables, UNIT_RESERVE, i);
+    if entry_of(tables, UNIT_SERVICE, i) == service {
+        twelfth + reserve
+    } else {
+        0
+    }
 }
 
 // Writes each unit's credit in a service.
-#[tactic(auto, using(lists::proofs::Entries::put_none, lists::proofs::Entries::put_suc, lists::proofs::Entries::put_long))]
 fn fill_credits<'a>(service: u64, month: Month, tables: [&'a [u64]; TABLES], out: &mut [u64])
     requires { Creditable (units_input month.number (tables_now tables)) × (rows_of (tables_now tables) Units ≤ length out.old) }
     ensures { out.new ≡ put (rows_of (tables_now tables.entry) Units) (credit_in (units_input month.number (tables_now tables.entry)) service) out.old }
@@ -68,25 +65,24 @@ fn parts_of(zone: u64, credits: u64, network: u64, energy: u64) -> Parts
     ensures { (result.zone ≡ zone_part zone credits network energy) × (result.nonzone ≡ nonzone_part zone credits network energy) }
 {
     if zone == 0 {
-        return Parts {
+        Parts {
             zone: 0,
             nonzone: network + energy,
-        };
-    }
-    if credits == 0 {
-        return Parts {
+        }
+    } else if credits == 0 {
+        Parts {
             zone: energy,
             nonzone: network,
-        };
-    }
-    Parts {
-        zone: network + energy,
-        nonzone: 0,
+        }
+    } else {
+        Parts {
+            zone: network + energy,
+            nonzone: 0,
+        }
     }
 }
 
 // Writes each account's zone part and non-zone part of its use, of a column with the credits of the service's units.
-#[tactic(auto, using(lists::proofs::Entries::put_none, lists::proofs::Entries::put_suc, lists::proofs::Entries::put_long))]
 fn fill_parts<'a>(
     tables: [&'a [u64]; TABLES],
     networks: &[u64],
@@ -101,8 +97,8 @@ fn fill_parts<'a>(
 {
     let count = columns::rows_of(tables, Table::Accounts);
     for i in 0..count {
-        let zone = entry_of(tables, Table::Accounts, ACCOUNT_ZONE, i);
-        let credits = columns::sum_in(tables, Table::Units, UNIT_ZONE, unitcredits, zone);
+        let zone = entry_of(tables, ACCOUNT_ZONE, i);
+        let credits = columns::sum_in(tables, UNIT_ZONE, unitcredits, zone);
         let parts = parts_of(zone, credits, networks[i], energies[i]);
         zoneparts[i] = parts.zone;
         nonzoneparts[i] = parts.nonzone;
@@ -110,7 +106,6 @@ fn fill_parts<'a>(
 }
 
 // Charges the credits of a service's units to the accounts, zone by zone.
-#[tactic(auto, using(lists::proofs::Entries::put_long))]
 fn charge<'a>(
     tables: [&'a [u64]; TABLES],
     networks: &[u64],
@@ -125,21 +120,15 @@ fn charge<'a>(
 {
     let zonecount = columns::rows_of(tables, Table::Zones);
     let count = columns::rows_of(tables, Table::Accounts);
+    // No heap here: arrays of the most there can be, and the front of each.
     let mut numbers = [0u64; MOST_ZONES];
     let mut pots = [0u64; MOST_ZONES];
     let mut accountzones = [0u64; MOST_ACCOUNTS];
     let mut zoneparts = [0u64; MOST_ACCOUNTS];
     let mut nonzoneparts = [0u64; MOST_ACCOUNTS];
-    columns::copy(tables, Table::Zones, ZONE_NUMBER, &mut numbers);
-    columns::sums_in(
-        tables,
-        Table::Units,
-        UNIT_ZONE,
-        unitcredits,
-        Table::Zones,
-        &mut pots,
-    );
-    columns::copy(tables, Table::Accounts, ACCOUNT_ZONE, &mut accountzones);
+    columns::copy(tables, ZONE_NUMBER, &mut numbers);
+    columns::sums_in(tables, UNIT_ZONE, unitcredits, Table::Zones, &mut pots);
+    columns::copy(tables, ACCOUNT_ZONE, &mut accountzones);
     fill_parts(
         tables,
         networks,
@@ -158,9 +147,10 @@ fn charge<'a>(
     service::charge(lists, column, place)
 }
 
-// Settles a service, of which the first division stands at `place`, from two columns with the network part and the energy part of
-// each account's use: writes each account's charge and each owner's credit to the first words of two columns. Refused, it leaves the
-// charges as they were; the credits, which no division can refuse, are written.
+/// Settles a service, of which the first division stands at `place`, from two columns with the network part and the energy part of
+/// each account's use: writes each account's charge and each owner's credit to the first words of two columns. Refused, it leaves the
+/// charges as they were; the credits, which no division can refuse, are written. `service` is a number, as a unit's row has it:
+/// an enum would ask more of callers.
 pub fn settle<'a>(
     service: u64,
     month: Month,
@@ -175,15 +165,9 @@ pub fn settle<'a>(
     requires room_for_rows { (rows_of (tables_now tables) Accounts ≤ length charges.old) × (rows_of (tables_now tables) Owners ≤ length credits.old) }
     ensures { ServiceSettled (units_input month.number (tables_now tables.entry)) (at networks.now) (at energies.now) service place charges.old charges.new credits.old credits.new (result_answer result) }
 {
+    // no heap here: an array of the most there can be
     let mut unitcredits = [0u64; MOST_UNITS];
     fill_credits(service, month, tables, &mut unitcredits);
-    columns::sums_in(
-        tables,
-        Table::Units,
-        UNIT_OWNER,
-        &unitcredits,
-        Table::Owners,
-        credits,
-    );
+    columns::sums_in(tables, UNIT_OWNER, &unitcredits, Table::Owners, credits);
     charge(tables, networks, energies, &unitcredits, charges, place)
 }

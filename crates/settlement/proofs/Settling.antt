@@ -424,9 +424,6 @@ module _ {m : Input} {accounts₀ owners₀ charges lent networks energies : Lis
           left₄ : ColumnsLeft m (firm_charge m) (firm_credit m) true (eqb (firm_refusal m) 0) (column_at (limit Accounts) 3 accounts₃) firmcharges (column_at (limit Owners) 4 owners₃) firmcredits
           left₄ = firm_left m firm
 
-          pub whole₅ : Whole accounts₄ owners₄
-          whole₅ = left_whole m b.can whole₄ 3 4 (omega arith) (omega arith) left₄
-
           firm_lent : ColumnLent (limit Accounts) 3 accounts₃ firmcharges accounts₄
           firm_lent = charges_lent m b.can whole₄ 3 4 (omega arith) (omega arith) left₄
 

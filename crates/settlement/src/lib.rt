@@ -1,6 +1,7 @@
-// The settlement of a month, from its head and its tables as plain numbers: its answer, and the lent outputs. An input is judged
-// first, then every division is made in working columns, with the charges and credits of `pool`, `services` and `firm`, and only a
-// month that is accepted writes to the lent outputs. `specs/` says what is answered and written, `proofs/Promises.antt` what follows from it.
+//! The settlement of a month, from its head and its tables as plain numbers: its answer, and the lent outputs. An input is judged
+//! first, then every division is made in working columns, with the charges and credits of `pool`, `services` and `firm`, and only a
+//! month that is accepted writes to the lent outputs. `specs/` says what is answered and written, `proofs/Promises.antt` what follows
+//! from it.
 #![tactic(auto)]
 
 ghost use Rattle.std.specs.Prelude.{◌*◌, ◌≤◌, length};
@@ -20,6 +21,7 @@ use tables::{
 
 mod output;
 
+// Both blocks stay flat: the network's credits are two of the owners' columns, which `network::credit` is lent as one slice.
 // Where each column of the accounts' block ends: their charges for the network, black start, reactive, firm service.
 const NETWORK_CHARGES_END: usize = MOST_ACCOUNTS;
 
@@ -52,6 +54,7 @@ fn divide_month<'a>(
     ensures { MonthDivided (month_with month head (tables_now tables.entry)) accounts.new owners.new (result_answer result) }
 {
     let count = columns::rows_of(tables, Table::Zones) as u64;
+    // no heap here: an array of the most there can be
     let mut networks = [0u64; MOST_ACCOUNTS];
     let mut energies = [0u64; MOST_ACCOUNTS];
     accounts::fill(
@@ -111,6 +114,7 @@ fn settle_good<'a>(
     requires outputs_fit { (account_count (month_with month head (tables_now tables)) * charge_width ≤ length charges.old) × (owner_count (month_with month head (tables_now tables)) * credit_width ≤ length credits.old) }
     ensures { GoodSettled (month_with month head (tables_now tables.entry)) charges.old charges.new credits.old credits.new (result_answer result) }
 {
+    // no heap here: an array of the most there can be
     let mut accounts = [0u64; CHARGE_WIDTH * MOST_ACCOUNTS];
     let mut owners = [0u64; CREDIT_WIDTH * MOST_OWNERS];
     divide_month(month, head, tables, &mut accounts, &mut owners)?;
@@ -131,11 +135,11 @@ fn settle_good<'a>(
     Ok(())
 }
 
-// Settles a month. Refused is what `judgement::judge` refuses; then the first division that can't be made, with BIG or BASE, as table 9
-// with its place as row: with k zones, network zones 0 to k - 1, network non-zone k, then black start and reactive, each zone's split
-// and share in turn and last its non-zone pot, then the firm one at 5k + 3. A refusal writes nothing. An accepted month writes each
-// account's charges (network, black start, reactive, firm) to the first words of `charges`, row by row, and each owner's credits
-// (network, non-zone network, black start, reactive, firm) to the first words of `credits`; the words behind them stay.
+/// Settles a month. Refused is what `judgement::judge` refuses; then the first division that can't be made, with BIG or BASE, as table 9
+/// with its place as row: with k zones, network zones 0 to k - 1, network non-zone k, then black start and reactive, each zone's split
+/// and share in turn and last its non-zone pot, then the firm one at 5k + 3. A refusal writes nothing. An accepted month writes each
+/// account's charges (network, black start, reactive, firm) to the first words of `charges`, row by row, and each owner's credits
+/// (network, non-zone network, black start, reactive, firm) to the first words of `credits`; the words behind them stay.
 pub fn settle<'a>(
     head: Head,
     tables: [&'a [u64]; TABLES],

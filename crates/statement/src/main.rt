@@ -1,5 +1,5 @@
-// The statement program: a month file on standard input, its statement on standard output. A read or a write that fails is said on
-// standard error, and no `refuse=` line blames the file for it.
+//! The statement program: a month file on standard input, its statement on standard output. A read or a write that fails is said on
+//! standard error, and no `refuse=` line blames the file for it.
 #![tactic(auto)]
 
 use statement_text::{MOST_ASKED, MOST_SHOWN};
@@ -8,7 +8,7 @@ mod input;
 
 // Says what failed. Where even that can't be said, nobody is there to hear it.
 fn say(rt: &HostRuntime, failed: &str) {
-    let _said = rt.eprintln(failed).is_ok();
+    let _ = rt.eprintln(failed);
 }
 
 fn main(rt: HostRuntime) {

@@ -1,6 +1,6 @@
-// The statement of a month: the file's bytes are read, the month is settled, and every account's charges, every owner's credits and
-// both totals are written as lines of text, or the one line of the first refusal. `specs/Statement.antt` has the statement of a
-// text, `proofs/Promises.antt` what follows from it.
+//! The statement of a month: the file's bytes are read, the month is settled, and every account's charges, every owner's credits and
+//! both totals are written as lines of text, or the one line of the first refusal. `specs/Statement.antt` has the statement of a
+//! text, `proofs/Promises.antt` what follows from it.
 #![tactic(auto)]
 
 ghost use Rattle.std.specs.Prelude.{◌≡◌, ◌*◌, ◌≤◌, length, take};
@@ -13,13 +13,13 @@ use answer::{Answer, Part, Refusal, Refused};
 use statement_lines::{show_month, show_refusal};
 use tables::{Head, TABLES, Table};
 
-// The most bytes that a month file may have.
+/// The most bytes that a month file may have.
 pub const MOST_BYTES: usize = 65_536;
 
-// The bytes to ask for: one more, so that a file with too many is seen to have them.
+/// The bytes to ask for: one more, so that a file with too many is seen to have them.
 pub const MOST_ASKED: usize = MOST_BYTES + 1;
 
-// The most bytes that a statement has.
+/// The most bytes that a statement has.
 pub const MOST_SHOWN: usize = 12_144;
 
 // The statement of a month, from its head and tables: it is settled in working memory, and its lines are written, or the line of its
@@ -31,6 +31,7 @@ fn state_month<'a>(
 ) -> Result<usize, Refused>
     ensures { Shows (settled_text (month_of head (tables_now tables.entry))) out.old out.new (shown_of result) }
 {
+    // no heap here: an array of the most there can be
     let mut charges = [0u64; tables::MOST_ACCOUNTS * tables::CHARGE_WIDTH];
     let mut credits = [0u64; tables::MOST_OWNERS * tables::CREDIT_WIDTH];
     match settlement::settle(head, tables, &mut charges, &mut credits) {
@@ -53,9 +54,10 @@ fn front<'a>(table: Table, count: usize, words: &'a [u64]) -> &'a [u64]
     &words[..count * tables::width(table)]
 }
 
-// Writes the statement of a month file to the front of `out`: a line of charges for each account, a line of credits for each owner
-// and the totals where the month is accepted; the one line of the refusal where it is not, and where the file has too many
-// bytes. What is answered is its length, or ROOM where `out` is too short for the statement: then `out` is unchanged.
+/// Writes the statement of a month file to the front of `out`: a line of charges for each account, a line of credits for each owner
+/// and the totals where the month is accepted; the one line of the refusal where it is not, and where the file has too many
+/// bytes. What is answered is its length, or ROOM where `out` is too short for the statement: then `out` is unchanged.
+/// There is no heap here: each table is lent at full size, with the count of its rows beside it.
 pub fn statement(text: &[u8], out: &mut [u8]) -> Result<usize, Refused>
     ensures { Shows (statement_of text.now) out.old out.new (shown_of result) }
 {
@@ -98,8 +100,8 @@ pub fn statement(text: &[u8], out: &mut [u8]) -> Result<usize, Refused>
     }
 }
 
-// Writes the statement of the file that stands in the first `count` bytes of `text` to the front of `out`, and answers its length.
-// `text` holds a byte more than a file may have, and `out` any statement: nothing is refused for want of room.
+/// Writes the statement of the file that stands in the first `count` bytes of `text` to the front of `out`, and answers its length.
+/// `text` holds a byte more than a file may have, and `out` any statement: nothing is refused for want of room.
 pub fn state_file(text: &[u8; MOST_ASKED], count: usize, out: &mut [u8; MOST_SHOWN]) -> usize
     ensures { FileStated text.now count out.old out.new result }
 {

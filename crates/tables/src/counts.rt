@@ -1,4 +1,4 @@
-// COUNT: whether each table is whole rows, and no more of them than it may have.
+//! COUNT: whether each table is whole rows, and no more of them than it may have.
 ghost use Rattle.answer.specs.Results.{Answers};
 ghost use Rattle.tables.specs.Shape.{tables_now};
 ghost use Rattle.tables.specs.Counts.{counted, counts_in_turn};
@@ -19,7 +19,7 @@ fn judge_count(table: Table, words: usize) -> Result<(), Refused>
     Ok(())
 }
 
-// COUNT for every table in turn.
+/// COUNT for every table in turn.
 pub fn count_tables<'a>(tables: [&'a [u64]; TABLES]) -> Result<(), Refused>
     ensures { Answers result (counts_in_turn (tables_now tables.entry)) }
 {

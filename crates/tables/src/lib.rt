@@ -1,7 +1,8 @@
-// The shape of a month's head and of its tables 1 to 6 and 10: what a refusal calls each table, how many entries its rows have, by how
-// many of them they ascend, how many rows it may have, and the limits of what stands in them. A table is named by a `Table`; its rows lie
-// end to end in one slice of words, and the tables that are only read go as one array of such slices, in the order of their numbers.
-// `columns` has each entry of a row by name, and `counts` judges whether tables are whole rows and no more than they may have.
+//! The shape of a month's head and of its tables 1 to 6 and 10: what a refusal calls each table, how many entries its rows have, by how
+//! many of them they ascend, how many rows it may have, and the limits of what stands in them. A table is named by a `Table`; its rows lie
+//! end to end in one slice of words, and the tables that are only read go as one array of such slices, in the order of their numbers: by
+//! value, since a struct whose model holds references cannot be copied, and this is indexed, looped over and handed on beside `&mut`.
+//! `columns` has each entry of a row by name, and `counts` judges whether tables are whole rows and no more than they may have.
 #![tactic(auto)]
 
 ghost use Rattle.std.specs.Prelude.{◌≡◌, ◌/◌};
@@ -12,8 +13,8 @@ use answer::Part;
 pub mod columns;
 pub mod counts;
 
-// The head of a month, plain numbers: which month, how many days it has, the non-zone rate, the rates of firm service by the day, the
-// week and the month, and the weekday of day 1, from Monday on.
+/// The head of a month, plain numbers: which month, how many days it has, the non-zone rate, the rates of firm service by the day, the
+/// week and the month, and the weekday of day 1, from Monday on.
 #[derive(Clone, Copy, Debug, PartialEq, Eq)]
 pub struct Head {
     pub month: u64,
@@ -25,7 +26,7 @@ pub struct Head {
     pub weekday: u64,
 }
 
-// How many numbers a head has.
+/// How many numbers a head has.
 pub const HEADS: usize = 7;
 
 impl From<[u64; HEADS]> for Head {
@@ -65,10 +66,10 @@ impl From<Head> for [u64; HEADS] {
     }
 }
 
-// How many tables there are.
+/// How many tables there are.
 pub const TABLES: usize = 7;
 
-// One of tables 1 to 6, or table 10.
+/// One of tables 1 to 6, or table 10.
 #[derive(Clone, Copy, Debug, PartialEq, Eq)]
 pub enum Table {
     Zones,
@@ -152,13 +153,14 @@ pub const WEEKLY: u64 = 2;
 
 pub const MONTHLY: u64 = 3;
 
-// The mark of MISO delivery; 0 stands for any other.
+/// The mark of MISO delivery; 0 stands for any other.
 pub const MISO: u64 = 1;
 
-// The last weekday, Sunday; Monday is 1.
+/// The last weekday, Sunday; Monday is 1.
 pub const LAST_WEEKDAY: u64 = 7;
 
-// The table at a place, in the order of their numbers; a place behind them is taken for the last.
+/// The table at a place, in the order of their numbers; a place behind them is taken for the last. Loops over the
+/// tables count places, since what they keep is said of the first k tables, and a place has the table's slice too.
 pub fn table_at(place: usize) -> Table
     ensures { result ≡ table_at place }
 {
@@ -173,8 +175,8 @@ pub fn table_at(place: usize) -> Table
     }
 }
 
-// What the paper's list says of a table: its place among the tables, its name in a refusal, how many entries a row has, how many of
-// them in front are the key by which the rows ascend, and how many rows there may be.
+/// What the paper's list says of a table: its place among the tables, its name in a refusal, how many entries a row has, how many of
+/// them in front are the key by which the rows ascend, and how many rows there may be.
 #[derive(Clone, Copy, Debug, PartialEq, Eq)]
 pub struct Shape {
     pub place: usize,
@@ -184,7 +186,7 @@ pub struct Shape {
     pub limit: usize,
 }
 
-// The list, an entry a table.
+/// The list, an entry a table.
 pub fn shape_of(table: Table) -> Shape
     ensures { result ≡ shape_of table }
 {
@@ -271,14 +273,14 @@ pub fn limit(table: Table) -> usize
     shape_of(table).limit
 }
 
-// The words of one of the tables.
+/// The words of one of the tables.
 pub fn words_of<'a>(tables: [&'a [u64]; TABLES], table: Table) -> &'a [u64]
     ensures { result.now ≡ words_of (tables_now tables.entry) table }
 {
     tables[place_of(table)]
 }
 
-// How many whole rows of a table lie in so many words.
+/// How many whole rows of a table lie in so many words.
 pub fn rows_in(table: Table, words: usize) -> usize
     ensures { result ≡ words / width table }
 {

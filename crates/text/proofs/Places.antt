@@ -125,10 +125,6 @@ module _ (s : List ℕ) (i following value n : ℕ) (a : first_number (drop i s)
 abbrev pub with_front : List ℕ → Found (List ℕ) → Found (List ℕ)
 with_front front o = behind o (λ ns t. found (front ++ ns) t)
 
-front_none : (o : Found (List ℕ)) → o ≡ with_front [] o
-front_none (found ns t) = refl
-front_none missing = refl
-
 front_more : (front : List ℕ) (n : ℕ) (o : Found (List ℕ)) → with_front front (with_first n o) ≡ with_front (front ++ (n ∷ [])) o
 front_more front n (found ns t) = ap (λ l. found l t) (sym (append_assoc front (n ∷ []) ns))
 front_more front n missing = refl
@@ -137,9 +133,6 @@ front_more front n missing = refl
 pub record Partly (o left : Found (List ℕ)) : Type 0 where
   pub front : List ℕ
   pub whole : o ≡ with_front front left
-
-pub partly_start : (o : Found (List ℕ)) → Partly o o
-partly_start o = record { front = []; whole = front_none o }
 
 -- so many fields, one after the other
 module _ (s : List ℕ) (o : Found (List ℕ)) (i : ℕ) where

@@ -7,7 +7,7 @@ use native.Mathlib.Nat.{zero-add, add-zero, add-suc, suc-add}
 use native.Mathlib.Numerals.{add-one}
 use native.Mathlib.Omega.{arith}
 use lib.ListN.{length, take, drop, set, length-append}
-use lib.Seq.{drop-drop, sets, length-sets, sets-eq, set_comm}
+use lib.Seq.{drop-drop, sets, sets-eq, set_comm}
 use Rattle.text.specs.Places.{stored, PutAt, Sized}
 
 pub stored_none : (l : List ℕ) (at : ℕ) → stored l at [] ≡ l
@@ -21,10 +21,6 @@ stored_one l at v = refl
 pub stored_first : (l : List ℕ) (at v : ℕ) (vs : List ℕ) → stored l at (v ∷ vs) ≡ stored (set l at v) (at + 1) vs
 unfolding stored
 stored_first l at v vs = rw add-one
-
-pub length_stored : (l : List ℕ) (at : ℕ) (vs : List ℕ) → length (stored l at vs) ≡ length l
-unfolding stored
-length_stored l at vs = length-sets l at vs
 
 -- the piece at its place, and everything else as it was
 pub stored_is : (l : List ℕ) (at : ℕ) (vs : List ℕ) → at + length vs ≤ length l

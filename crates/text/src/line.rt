@@ -1,11 +1,10 @@
-// Lines of key=value, each ended by one line feed, with fields that commas join.
+//! Lines of key=value, each ended by one line feed, with fields that commas join.
 ghost use Rattle.std.specs.Prelude.{◌≡◌, ◌≢◌, ◌+◌, ◌≤◌, ◌<◌, length, drop};
 ghost use Rattle.text.specs.Numbers.{missing};
 ghost use Rattle.text.specs.Lines.{separator, field, fields, line, fields_text, line_text};
 ghost use Rattle.text.specs.Places.{NumberAt, LineAt, EndAt, KeyAt, PutAt, Sized, FieldsTaken};
 
-use crate::number;
-use crate::number::Number;
+use crate::number::{self, Number};
 
 const EQUALS: u8 = b'=';
 
@@ -23,7 +22,7 @@ fn separator(following: usize) -> u8
     }
 }
 
-// The field at `at` with what stands behind it, where so many more follow.
+/// The field at `at` with what stands behind it, where so many more follow.
 #[tactic(auto, using(crate::proofs::Lines::field_of_missing, crate::proofs::Places::field_cut, crate::proofs::Places::field_other, crate::proofs::Places::field_there))]
 pub fn field_at(text: &[u8], at: usize, following: usize) -> Option<Number>
     ensures { NumberAt text.now (field following (drop at text.now)) result }
@@ -63,7 +62,7 @@ fn key_at(text: &[u8], at: usize, key: &[u8]) -> Option<usize>
     Some(at + key.len() + 1)
 }
 
-// The offset behind the line at `at`, if a line with that key and so many fields stands there.
+/// The offset behind the line at `at`, if a line with that key and so many fields stands there.
 #[tactic(auto, using(crate::proofs::Places::line_unkeyed, crate::proofs::Places::line_keyed))]
 pub fn line_at(text: &[u8], at: usize, key: &[u8], width: usize) -> Option<usize>
     ensures { LineAt text.now (line key.now width (drop at text.now)) result }
@@ -71,7 +70,7 @@ pub fn line_at(text: &[u8], at: usize, key: &[u8], width: usize) -> Option<usize
     fields_at(text, key_at(text, at, key)?, width)
 }
 
-// The offset behind the line at `at`, `at` itself where no line with that key and so many fields stands there.
+/// The offset behind the line at `at`, `at` itself where no line with that key and so many fields stands there.
 #[tactic(auto, using(crate::proofs::Readers::end_is))]
 pub fn line_end(text: &[u8], at: usize, key: &[u8], width: usize) -> usize
     ensures { EndAt text.now at (line key.now width (drop at text.now)) result }
@@ -111,6 +110,7 @@ pub(crate) fn take_line(
 }
 
 // Adds the bytes of fields to a size, up to the cap.
+// `put_fields` walks them again: a walk for both would hold the lent bytes in a struct, and beside a `&mut` stands no ghost field.
 #[tactic(auto, using(crate::proofs::Pieces::length_next, crate::proofs::Pieces::text_done, crate::proofs::Numbers::length_decimal))]
 fn fields_size(fields: &[u64], before: usize, cap: usize) -> usize
     requires { before ≤ cap }
@@ -123,7 +123,7 @@ fn fields_size(fields: &[u64], before: usize, cap: usize) -> usize
     size
 }
 
-// Adds the bytes of a line with a key and its fields to a size, up to the cap.
+/// Adds the bytes of a line with a key and its fields to a size, up to the cap.
 #[tactic(auto, using(crate::proofs::Pieces::length_key))]
 pub fn line_size(key: &[u8], fields: &[u64], before: usize, cap: usize) -> usize
     ensures { Sized before (line_text key.now fields.now) cap result }
@@ -132,7 +132,7 @@ pub fn line_size(key: &[u8], fields: &[u64], before: usize, cap: usize) -> usize
     fields_size(fields, size, cap)
 }
 
-// Writes bytes at `at`, and answers the place behind them.
+/// Writes bytes at `at`, and answers the place behind them.
 #[tactic(auto, using(crate::proofs::Stores::stored_part))]
 pub fn put_bytes(bytes: &[u8], out: &mut [u8], at: usize) -> usize
     requires { at + length bytes.now ≤ length out.old }
@@ -158,7 +158,7 @@ fn put_fields(fields: &[u64], out: &mut [u8], at: usize) -> usize
     i
 }
 
-// Writes the line of a key and its fields at `at`, and answers the place behind it.
+/// Writes the line of a key and its fields at `at`, and answers the place behind it.
 #[tactic(auto, using(crate::proofs::Pieces::length_key))]
 pub fn put_line(key: &[u8], fields: &[u64], out: &mut [u8], at: usize) -> usize
     requires { at + length (line_text key.now fields.now) ≤ length out.old }

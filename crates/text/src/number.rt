@@ -1,4 +1,4 @@
-// Decimal numbers below 2^64, with no sign, space or needless zero in front.
+//! Decimal numbers below 2^64, with no sign, space or needless zero in front.
 ghost use Rattle.std.specs.Prelude.{◌≡◌, true, ◌+◌, ◌≤◌, ◌<◌, min, length, drop};
 ghost use Rattle.text.specs.Numbers.{is_digit, digit_of, digits_on, first_number, decimal};
 ghost use Rattle.text.specs.Places.{NumberAt, PutAt};
@@ -7,7 +7,7 @@ const ZERO: u8 = b'0';
 
 const BASE: u64 = 10;
 
-// A number that was read, and the offset behind it.
+/// A number that was read, and the offset behind it.
 #[derive(Clone, Copy, Debug, PartialEq, Eq)]
 pub struct Number {
     pub value: u64,
@@ -49,7 +49,7 @@ fn digits_on(text: &[u8], at: usize, first: u64) -> Option<Number>
     })
 }
 
-// The number at `at`: a digit 0 by itself, or every digit from there on.
+/// The number at `at`: a digit 0 by itself, or every digit from there on.
 #[tactic(auto, using(crate::proofs::Places::number_stops, crate::proofs::Places::number_no_digit, crate::proofs::Places::number_is_zero))]
 pub fn number_at(text: &[u8], at: usize) -> Option<Number>
     ensures { NumberAt text.now (first_number (drop at text.now)) result }
@@ -67,13 +67,14 @@ pub fn number_at(text: &[u8], at: usize) -> Option<Number>
     digits_on(text, at + 1, digit_of(byte))
 }
 
-// How many bytes a number takes.
+/// How many bytes a number takes.
 #[tactic(auto, using(crate::proofs::Numbers::length_tenth, crate::proofs::Numbers::decimal_one, crate::proofs::Numbers::length_decimal))]
 pub fn number_size(number: u64) -> usize
     ensures { result ≡ length (decimal number) }
 {
     let mut size = 1;
     let mut left = number;
+    // a `while`: digits are divided off, and no index is counted
     while BASE <= left {
         left /= BASE;
         size += 1;
@@ -81,7 +82,7 @@ pub fn number_size(number: u64) -> usize
     size
 }
 
-// Writes a number at `at`, its last digit first, and answers the place behind it.
+/// Writes a number at `at`, its last digit first, and answers the place behind it.
 #[tactic(auto, using(crate::proofs::Numbers::one_digit, crate::proofs::Numbers::length_decimal, crate::proofs::Stores::stored_one, crate::proofs::Numbers::decimal_one))]
 pub fn put_number(number: u64, out: &mut [u8], at: usize) -> usize
     requires { at + length (decimal number) ≤ length out.old }
@@ -97,7 +98,7 @@ pub fn put_number(number: u64, out: &mut [u8], at: usize) -> usize
     end
 }
 
-// A size and a piece more, or the cap where they add up to more.
+/// A size and a piece more, or the cap where they add up to more.
 pub fn add_capped(size: usize, piece: usize, cap: usize) -> usize
     ensures { result ≡ min (size + piece) cap }
 {

@@ -1,5 +1,5 @@
-// The words of a month, in parts by their numbers in an answer: 0 the head, 1 to 6 and 10 the tables, 7 and 8 the outputs; 9 is none. What
-// a part can't have is passed over.
+//! The words of a month, in parts by their numbers in an answer: 0 the head, 1 to 6 and 10 the tables, 7 and 8 the outputs; 9 is none. What
+//! a part can't have is passed over.
 use std::alloc::{AllocError, Global};
 use tables::{
     ACCOUNT_WIDTH, FIRM_WIDTH, LOAD_WIDTH, OWNER_WIDTH, RESERVATION_WIDTH, UNIT_WIDTH, ZONE_WIDTH,
@@ -65,10 +65,10 @@ impl Block {
             return;
         }
         let width = WIDTHS.get(part).copied().unwrap_or(FIRM_WIDTH);
-        if let Some(words) = self.parts.get_mut(part) {
-            if let Some(word) = words.get_mut(row * width + column) {
-                *word = entry;
-            }
+        if let Some(words) = self.parts.get_mut(part)
+            && let Some(word) = words.get_mut(row * width + column)
+        {
+            *word = entry;
         }
     }
 }

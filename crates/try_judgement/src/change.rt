@@ -1,32 +1,25 @@
-// What a line changes, part by part, each behind a semicolon. `3=1,2,3` gives table 3 these words, `3@1,2=5` gives the entry of its
-// row 1 in column 2, both from 0, and `3*6` makes it 6 words, all 0. The parts have the numbers of an answer's tables, 0 for the head,
-// which is one row, 7 and 8 for the outputs. Each function takes what it reads off the front of a text, and answers the rest.
-ghost use Rattle.std.specs.Prelude.{◌-◌, ◌≤◌, ◌<◌, length, IfOk};
+//! What a line changes, part by part, each behind a semicolon. `3=1,2,3` gives table 3 these words, `3@1,2=5` gives the entry of its
+//! row 1 in column 2, both from 0, and `3*6` makes it 6 words, all 0. The parts have the numbers of an answer's tables, 0 for the head,
+//! which is one row, 7 and 8 for the outputs. Each function takes what it reads off the front of a text, and answers the rest.
+ghost use Rattle.std.specs.Prelude.{◌-◌, ◌≤◌, ◌<◌, length, IfOk, IfSome};
 
 use crate::block::{self, Block};
 use std::alloc::{AllocError, Global};
 use text::number::number_at;
 
-// A number, 0 where there is none, and what stands behind it.
-#[derive(Clone, Copy)]
-struct Taken<'a> {
-    value: u64,
-    rest: &'a [u8],
+// The number that stands first, and what stands behind it.
+fn first(text: &[u8]) -> Option<(u64, &[u8])>
+    ensures { IfSome result (λ found. length found.1.now < length text.now) }
+{
+    let found = number_at(text, 0)?;
+    Some((found.value, &text[found.next..]))
 }
 
-fn number(text: &[u8]) -> Taken<'_>
-    ensures { length result.rest.now ≤ length text.now }
+// The number that stands first, 0 where there is none, and what stands behind it.
+fn number(text: &[u8]) -> (u64, &[u8])
+    ensures { length result.1.now ≤ length text.now }
 {
-    match number_at(text, 0) {
-        Some(found) => Taken {
-            value: found.value,
-            rest: &text[found.next..],
-        },
-        None => Taken {
-            value: 0,
-            rest: text,
-        },
-    }
+    first(text).unwrap_or((0, text))
 }
 
 // What stands behind a byte, where it stands first.
@@ -63,13 +56,10 @@ fn take_words<'a>(text: &'a [u8], words: &mut Vec<u64>) -> Result<&'a [u8], Allo
     ensures { IfOk result (λ rest. length rest.now ≤ length text.entry.now) }
 {
     let mut rest = text;
-    while !rest.is_empty() {
-        let found = number(rest);
-        if found.rest.len() == rest.len() {
-            return Ok(rest);
-        }
-        words.push(found.value)?;
-        rest = behind(found.rest, b',');
+    // word by word: no index is counted
+    while let Some((word, more)) = first(rest) {
+        words.push(word)?;
+        rest = behind(more, b',');
     }
     Ok(rest)
 }
@@ -78,11 +68,11 @@ fn take_words<'a>(text: &'a [u8], words: &mut Vec<u64>) -> Result<&'a [u8], Allo
 fn take_entry<'a>(text: &'a [u8], block: &mut Block, part: usize) -> &'a [u8]
     ensures { length result.now ≤ length text.entry.now }
 {
-    let row = number(text);
-    let column = number(behind(row.rest, b','));
-    let entry = number(behind(column.rest, b'='));
-    block.set_entry(part, row.value as usize, column.value as usize, entry.value);
-    entry.rest
+    let (row, rest) = number(text);
+    let (column, rest) = number(behind(rest, b','));
+    let (entry, rest) = number(behind(rest, b'='));
+    block.set_entry(part, row as usize, column as usize, entry);
+    rest
 }
 
 // The change that stands behind the first byte.
@@ -90,9 +80,8 @@ fn change<'a>(alloc: Global, text: &'a [u8], block: &mut Block) -> Result<&'a [u
     requires { 0 < length text.now }
     ensures { IfOk result (λ rest. length rest.now < length text.entry.now) }
 {
-    let named = number(behind_first(text));
-    let part = named.value as usize;
-    let mark = named.rest;
+    let (part, mark) = number(behind_first(text));
+    let part = part as usize;
     let rest = behind_first(mark);
     match mark.first() {
         Some(b'=') => {
@@ -103,9 +92,9 @@ fn change<'a>(alloc: Global, text: &'a [u8], block: &mut Block) -> Result<&'a [u
         }
         Some(b'@') => Ok(take_entry(rest, block, part)),
         Some(b'*') => {
-            let count = number(rest);
-            block.set_part(part, block::zeros(alloc, count.value as usize)?);
-            Ok(count.rest)
+            let (count, rest) = number(rest);
+            block.set_part(part, block::zeros(alloc, count as usize)?);
+            Ok(rest)
         }
         _ => Ok(rest),
     }
@@ -120,10 +109,8 @@ pub(crate) fn changes<'a>(
     ensures { IfOk result (λ rest. length rest.now ≤ length text.entry.now) }
 {
     let mut rest = text;
-    while !rest.is_empty() {
-        if rest.first() == Some(&b'\n') {
-            return Ok(rest);
-        }
+    // what is left of the text moves on, and no index is counted
+    while !matches!(rest.first(), None | Some(b'\n')) {
         rest = change(alloc, rest, block)?;
     }
     Ok(rest)

@@ -1,4 +1,4 @@
-// A line of the program: the name of a judgement, a colon, and what `judgement::judge` answers, its number, table and row.
+//! A line of the program: the name of a judgement, a colon, and what `judgement::judge` answers, its number, table and row.
 use crate::block::Block;
 use answer::Answer;
 use std::io;

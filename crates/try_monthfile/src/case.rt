@@ -1,6 +1,6 @@
-// Case S of the paper, the lines on texts that are read into lent tables, and the lines on texts that differ from case S in one piece.
-// The lines of case S start at 0, 8, 16, 26, 34, 43, 53 (the head), 63 (zone), 77, 91 (owners), 105 (unit), 126, 141 (accounts),
-// 156, 168 (loads), 180 (ptp) and 192 (end), and its length is 198.
+//! Case S of the paper, the lines on texts that are read into lent tables, and the lines on texts that differ from case S in one piece.
+//! The lines of case S start at 0, 8, 16, 26, 34, 43, 53 (the head), 63 (zone), 77, 91 (owners), 105 (unit), 126, 141 (accounts),
+//! 156, 168 (loads), 180 (ptp) and 192 (end), and its length is 198.
 use crate::line::Joined;
 use crate::{line, marks};
 use std::io;
@@ -21,13 +21,13 @@ pub(crate) fn read_into(
     sizes: [usize; TABLES],
     looked: usize,
 ) -> io::Result<()> {
-    let mut zones = marks::words(rt.alloc(), sizes[0], FULL[0] + 1)?;
-    let mut owners = marks::words(rt.alloc(), sizes[1], FULL[1] + 1)?;
-    let mut units = marks::words(rt.alloc(), sizes[2], FULL[2] + 1)?;
-    let mut accounts = marks::words(rt.alloc(), sizes[3], FULL[3] + 1)?;
-    let mut loads = marks::words(rt.alloc(), sizes[4], FULL[4] + 1)?;
-    let mut reservations = marks::words(rt.alloc(), sizes[5], FULL[5] + 1)?;
-    let mut firm = marks::words(rt.alloc(), sizes[6], FULL[6] + 1)?;
+    let mut zones = marks::marked(rt.alloc(), marks::WORD, sizes[0], FULL[0] + 1)?;
+    let mut owners = marks::marked(rt.alloc(), marks::WORD, sizes[1], FULL[1] + 1)?;
+    let mut units = marks::marked(rt.alloc(), marks::WORD, sizes[2], FULL[2] + 1)?;
+    let mut accounts = marks::marked(rt.alloc(), marks::WORD, sizes[3], FULL[3] + 1)?;
+    let mut loads = marks::marked(rt.alloc(), marks::WORD, sizes[4], FULL[4] + 1)?;
+    let mut reservations = marks::marked(rt.alloc(), marks::WORD, sizes[5], FULL[5] + 1)?;
+    let mut firm = marks::marked(rt.alloc(), marks::WORD, sizes[6], FULL[6] + 1)?;
     let read = fileread::read(
         text,
         &mut zones,
@@ -40,14 +40,15 @@ pub(crate) fn read_into(
     );
     line::reading(rt, name, read)?;
     let changed = [
-        changed_in(&zones, looked),
-        changed_in(&owners, looked),
-        changed_in(&units, looked),
-        changed_in(&accounts, looked),
-        changed_in(&loads, looked),
-        changed_in(&reservations, looked),
-        changed_in(&firm, looked),
-    ];
+        &zones[..],
+        &owners[..],
+        &units[..],
+        &accounts[..],
+        &loads[..],
+        &reservations[..],
+        &firm[..],
+    ]
+    .map(|words| changed_in(words, looked));
     println!(rt; " words {}", Joined(&changed))
 }
 

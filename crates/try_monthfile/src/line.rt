@@ -1,4 +1,4 @@
-// What the lines are made of, written to standard output.
+//! What the lines are made of, written to standard output.
 use answer::{Answer, Refused};
 use fileread::Held;
 use std::{fmt, io};

@@ -1,19 +1,19 @@
-// Words and bytes are marked before they are lent, so that a line can say how many of them a call changed. No file and no table here
-// has a mark in it.
+//! Words and bytes are marked before they are lent, so that a line can say how many of them a call changed. No file and no table here
+//! has a mark in it.
 use std::alloc::{AllocError, Global};
 
 pub(crate) const WORD: u64 = 777;
 
 pub(crate) const BYTE: u8 = b'#';
 
-// So many marked words, `most` at the most.
-pub(crate) fn words(alloc: Global, count: usize, most: usize) -> Result<Vec<u64>, AllocError> {
-    vec![in alloc; WORD; count.min(most)]
-}
-
-// So many marked bytes, `most` at the most.
-pub(crate) fn bytes(alloc: Global, count: usize, most: usize) -> Result<Vec<u8>, AllocError> {
-    vec![in alloc; BYTE; count.min(most)]
+// So many marked words or bytes, `most` at the most.
+pub(crate) fn marked<T: Copy + Drop>(
+    alloc: Global,
+    mark: T,
+    count: usize,
+    most: usize,
+) -> Result<Vec<T>, AllocError> {
+    vec![in alloc; mark; count.min(most)]
 }
 
 // So many bytes from a place on, as far as they go.
@@ -24,10 +24,7 @@ pub(crate) fn part(bytes: &[u8], from: usize, size: usize) -> &[u8] {
 }
 
 // How many of some words or bytes are no longer the mark.
-pub(crate) fn changed<T: PartialEq>(lent: &[T], mark: T) -> usize
-where
-    T: Drop,
-{
+pub(crate) fn changed<T: PartialEq + Drop>(lent: &[T], mark: T) -> usize {
     lent.iter().filter(|entry| **entry != mark).count()
 }
 

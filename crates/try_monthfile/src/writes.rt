@@ -1,4 +1,4 @@
-// Writing: tables of zeros, case S into bytes that are too few and just enough, and the largest head.
+//! Writing: tables of zeros, case S into bytes that are too few and just enough, and the largest head.
 use crate::case::{FULL, read_into};
 use crate::{line, marks};
 use answer::Refused;
@@ -47,7 +47,7 @@ fn write_into<'a>(
     tables: [&'a [u64]; TABLES],
     bytes: usize,
 ) -> io::Result<()> {
-    let mut out = marks::bytes(rt.alloc(), bytes, 256)?;
+    let mut out = marks::marked(rt.alloc(), marks::BYTE, bytes, 256)?;
     let written = filewrite::write(head, tables, &mut out);
     show(rt, name, written, &out)
 }
@@ -58,11 +58,7 @@ fn write_fronts<'a>(
     sizes: [usize; TABLES],
     out: &mut [u8],
 ) -> Result<usize, Refused> {
-    let mut tables = [words; TABLES];
-    for (k, size) in sizes.iter().enumerate() {
-        let end = words.len().min(*size);
-        tables[k] = &words[..end];
-    }
+    let tables = sizes.map(|size| &words[..words.len().min(size)]);
     filewrite::write(HEAD, tables, out)
 }
 
@@ -88,7 +84,7 @@ pub(crate) fn write_zeros(
     sizes: [usize; TABLES],
     bytes: usize,
 ) -> io::Result<()> {
-    let mut out = marks::bytes(rt.alloc(), bytes, 32_768)?;
+    let mut out = marks::marked(rt.alloc(), marks::BYTE, bytes, 32_768)?;
     let written = write_fronts(&[0u64; 4_965], sizes, &mut out);
     show(rt, name, written, &out)
 }

@@ -1,5 +1,5 @@
-// Whether amounts that add up to the pot are level: how high each stands over its exact share, from products in two words,
-// and the highest and the lowest of these.
+//! Whether amounts that add up to the pot are level: how high each stands over its exact share, from products in two words,
+//! and the highest and the lowest of these.
 ghost use Rattle.std.specs.Prelude.{◌≡◌, ◌+◌, ◌-◌, ◌*◌, ◌≤◌, ◌<◌, min, length};
 ghost use Rattle.lists.specs.Sums.{total};
 ghost use Rattle.closeness.specs.Closeness.{level};
@@ -7,14 +7,15 @@ ghost use Rattle.division.specs.Limits.{pot_limit, weight_limit};
 ghost use Rattle.division.specs.Refused.{FineSize};
 ghost use Rattle.verdict.specs.Steps.{wide_value, WideProduct};
 
-// A number in two words: `high` times 2^19, and `low` below 2^19.
+// A number in two words: `high` times 2^19, and `low` below 2^19. They are not one `u128`: `must-fail/high_part_lost.edit` tries the
+// carry from the low word into the high one.
 #[derive(Drop)]
 struct Wide {
     high: u64,
     low: u64,
 }
 
-const WORD: u64 = 524_288;
+const WORD: u64 = 1 << 19;
 
 fn product(factor: u64, number: u64) -> Wide
     requires { (factor ≤ weight_limit) × (number ≤ pot_limit + 1) }
@@ -47,7 +48,7 @@ fn excess(number: Wide, other: Wide, cap: u64) -> u64
     cap.min(upper - lower)
 }
 
-// Whether no amount stands more than a cent higher over its exact share than another, for amounts that add up to the pot.
+/// Whether no amount stands more than a cent higher over its exact share than another, for amounts that add up to the pot.
 #[tactic(auto, using(crate::proofs::Heights::heights))]
 pub fn is_level(pot: u64, weights: &[u64], sum: u64, amounts: &[u64]) -> bool
     requires sum_value { (sum ≡ total weights.now) × FineSize pot sum }
@@ -56,8 +57,8 @@ pub fn is_level(pot: u64, weights: &[u64], sum: u64, amounts: &[u64]) -> bool
 {
     let mut highest: u64 = 0;
     let mut lowest = 2 * sum;
-    for (i, &weight) in weights.iter().enumerate() {
-        let above = product(sum, amounts[i] + 1);
+    for (&weight, &amount) in weights.iter().zip(amounts) {
+        let above = product(sum, amount + 1);
         let exact = product(weight, pot);
         let height = excess(above, exact, 2 * sum);
         highest = highest.max(height);

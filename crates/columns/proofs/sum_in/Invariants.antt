@@ -6,4 +6,4 @@ use Rattle.tables.specs.Columns.{entry}
 use Rattle.columns.proofs.sum_in.Given as goal
 
 abbrev pub invariant-loop-i : goal.invariant-loop-i
-invariant-loop-i l = l.sum ≡ sum_where l.i (entry l.table l.column l.words) (at l.values) l.number
+invariant-loop-i l = l.sum ≡ sum_where l.i (entry l.column.table l.column.index l.words) (at l.values) l.number

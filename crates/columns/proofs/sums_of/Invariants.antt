@@ -1,7 +1,6 @@
 -- `columns::sums_of` meets its contract: the words passed hold their sums.
 -- Assumes nothing.
 use mathlib.Core.Path.{◌≡◌}
-use mathlib.Core.List.{map}
 use Rattle.lists.specs.Entries.{put}
 use Rattle.tables.specs.Shape.{tables_now}
 use Rattle.columns.specs.Columns.{entry_of, sum_of}
@@ -9,4 +8,4 @@ use Rattle.columns.proofs.sums_of.Given as goal
 
 abbrev pub invariant-loop-i : goal.invariant-loop-i
 invariant-loop-i l =
-    l.out ≡ put l.i (λ j. sum_of (tables_now l.tables) l.table l.column (entry_of (tables_now l.tables) l.named 0 j)) l.initial.out
+    l.out ≡ put l.i (λ j. sum_of (tables_now l.tables) l.column.table l.column.index (entry_of (tables_now l.tables) l.fn.named 0 j)) l.initial.out

@@ -1,7 +1,6 @@
 -- `filewrite::write` meets its contract: COUNT, then the text measured and ROOM, then the text written.
 -- Assumes nothing.
 use mathlib.Core.Path.{ap}
-use mathlib.Core.List.{map}
 use Rattle.std.proofs.lemmas.Result.{err_from_is_err_and}
 use Rattle.tables.specs.Shape.{Tables, tables_now}
 use Rattle.answer.specs.Results.{refused_answer}

@@ -1,7 +1,6 @@
 -- `services::fill_credits` meets its contract: the units passed have their credits.
 -- Assumes nothing.
 use mathlib.Core.Path.{◌≡◌}
-use mathlib.Core.List.{map}
 use Rattle.lists.specs.Entries.{put}
 use Rattle.tables.specs.Shape.{tables_now}
 use Rattle.pool.specs.Services.{credit_in}

@@ -1,7 +1,6 @@
 -- `services::fill_parts` meets its contract: the accounts passed have their two parts.
 -- Assumes nothing.
 use mathlib.Core.Path.{◌≡◌}
-use mathlib.Core.List.{map}
 use Rattle.lists.specs.Entries.{put}
 use Rattle.tables.specs.Shape.{tables_now}
 use Rattle.services.specs.Steps.{service_lent}

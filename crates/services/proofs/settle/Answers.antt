@@ -1,14 +1,12 @@
 -- `services::settle` meets its contract: the column between holds the credits of the service's units.
 -- Assumes nothing.
-use mathlib.Core.List.{map}
-use native.Mathlib.Omega.{arith}
 use Rattle.tables.specs.Shape.{tables_now}
 use Rattle.services.proofs.Serving.{credits_summable, zones_credited, owners_credited, served_same}
 use Rattle.services.proofs.settle.Goals as goal
 
-pub sums_in-requires-clause-column_bound : goal.sums_in-requires-clause-column_bound
-sums_in-requires-clause-column_bound c =
-    let can = c.requires.creditable.0 in (omega arith, credits_summable _ _ can _ _ _ can.few_units c.fill_credits.ensures)
+pub sums_in-requires-clause-column_fits : goal.sums_in-requires-clause-column_fits
+sums_in-requires-clause-column_fits c =
+    let can = c.requires.creditable.0 in credits_summable _ _ can _ _ _ can.few_units c.fill_credits.ensures
 
 pub charge-requires-clause-usable : goal.charge-requires-clause-usable
 charge-requires-clause-usable c =

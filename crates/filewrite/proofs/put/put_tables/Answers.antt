@@ -1,6 +1,5 @@
 -- `filewrite::put::put_tables` meets its contract: what is left from a table on is written behind the tables before.
 -- Assumes nothing.
-use mathlib.Core.List.{map}
 use Rattle.tables.specs.Shape.{tables_now}
 use Rattle.filewrite.proofs.Pieces.{putting_fits, putting_next, putting_end, table_piece, tables_end}
 use Rattle.filewrite.proofs.put.put_tables.Goals as goal

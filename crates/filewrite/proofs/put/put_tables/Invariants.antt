@@ -1,6 +1,5 @@
 -- `filewrite::put::put_tables` meets its contract: what is left from a table on is written behind the tables before.
 -- Assumes nothing.
-use mathlib.Core.List.{map}
 use Rattle.tables.specs.Shape.{tables_now}
 use Rattle.filewrite.proofs.Pieces.{Putting, text_from}
 use Rattle.filewrite.proofs.put.put_tables.Given as goal

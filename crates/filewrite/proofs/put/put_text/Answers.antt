@@ -1,7 +1,6 @@
 -- `filewrite::put::put_text` meets its contract: the first lines, the tables and the last line, one behind the other.
 -- Assumes nothing.
 use mathlib.Core.Path.{◌≡◌, refl}
-use mathlib.Core.List.{map}
 use Prim.Native.Nat.{ℕ, ◌+◌}
 use native.Mathlib.Omega.{arith}
 use lib.ListN.{length}

@@ -1,6 +1,5 @@
 -- `filewrite::put::tables_size` meets its contract: what is left from a table on is measured behind the tables before.
 -- Assumes nothing.
-use mathlib.Core.List.{map}
 use Rattle.tables.specs.Shape.{tables_now}
 use Rattle.filewrite.proofs.Pieces.{Measuring, text_from}
 use Rattle.filewrite.proofs.put.tables_size.Given as goal

@@ -1,6 +1,5 @@
 -- `filewrite::put::text_size` meets its contract: the first lines, the tables and the last line, one after the other.
 -- Assumes nothing.
-use mathlib.Core.List.{map}
 use Rattle.tables.specs.Shape.{tables_now}
 use Rattle.filewrite.proofs.Pieces.{heads_of, tables_of, end_of, file_pieces, three_sized}
 use Rattle.filewrite.proofs.put.text_size.Goals as goal

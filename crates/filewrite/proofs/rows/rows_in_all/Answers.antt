@@ -1,6 +1,5 @@
 -- `filewrite::rows::rows_in_all` meets its contract: the rows so far and those from a table on are all of them.
 -- Assumes nothing.
-use mathlib.Core.List.{map}
 use native.Mathlib.Omega.{arith}
 use Rattle.tables.specs.Shape.{tables_now}
 use Rattle.filewrite.proofs.Pieces.{rows_next, rows_end}

@@ -1,7 +1,6 @@
 -- `filewrite::rows::rows_in_all` meets its contract: the rows so far and those from a table on are all of them.
 -- Assumes nothing.
 use mathlib.Core.Path.{◌≡◌}
-use mathlib.Core.List.{map}
 use Prim.Native.Nat.{◌+◌, ◌*◌, ◌^◌, ◌≤◌}
 use Rattle.tables.specs.Shape.{tables_now}
 use Rattle.filewrite.proofs.Pieces.{rows_from}

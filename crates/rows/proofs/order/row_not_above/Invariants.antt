@@ -3,5 +3,5 @@
 use Rattle.rows.proofs.KeyColumns.{KeyPassed}
 use Rattle.rows.proofs.order.row_not_above.Given as goal
 
-abbrev pub invariant-loop-column : goal.invariant-loop-column
-invariant-loop-column l = KeyPassed l.table l.words l.i l.keys l.column
+abbrev pub invariant-loop-index : goal.invariant-loop-index
+invariant-loop-index l = KeyPassed l.table l.words l.i l.keys l.index

@@ -3,8 +3,8 @@
 use Rattle.std.proofs.Common.{length, ◌≤◌}
 use Rattle.try_judgement.proofs.change.take_words.Given as goal
 
-abbrev pub invariant-loop-found : goal.invariant-loop-found
-invariant-loop-found l = length l.rest ≤ length l.initial.text
+abbrev pub invariant-loop-word : goal.invariant-loop-word
+invariant-loop-word l = length l.rest ≤ length l.initial.text
 
-abbrev pub decreases-loop-found : goal.decreases-loop-found
-decreases-loop-found l = length l.rest
+abbrev pub decreases-loop-word : goal.decreases-loop-word
+decreases-loop-word l = length l.rest

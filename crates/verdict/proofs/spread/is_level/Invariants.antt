@@ -2,12 +2,13 @@
 -- Assumes nothing.
 use mathlib.Core.Path.{◌≡◌}
 use Prim.Native.Nat.{◌*◌}
+use lib.ListN.{length}
 use Rattle.verdict.specs.Steps.{height}
 use Rattle.verdict.proofs.Heights.{most, least}
 use Rattle.verdict.proofs.spread.is_level.Given as goal
 
-abbrev pub invariant-loop-i : goal.invariant-loop-i
-invariant-loop-i l = record {
-  highest_is : l.highest ≡ most l.i (height l.pot l.weights l.sum l.amounts);
-  lowest_is : l.lowest ≡ least (2 * l.sum) l.i (height l.pot l.weights l.sum l.amounts);
+abbrev pub invariant-loop-weight : goal.invariant-loop-weight
+invariant-loop-weight l = record {
+  highest_is : l.highest ≡ most (length l.yielded) (height l.pot l.weights l.sum l.amounts);
+  lowest_is : l.lowest ≡ least (2 * l.sum) (length l.yielded) (height l.pot l.weights l.sum l.amounts);
 }
