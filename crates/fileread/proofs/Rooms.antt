@@ -2,29 +2,17 @@
 -- Assumes nothing.
 use mathlib.Core.Path.{◌≡◌, ap}
 use mathlib.Core.List.{List}
-use Prim.Native.Nat.{ℕ, ◌*◌, ◌≤◌, ◌^◌}
-use native.Mathlib.Omega.{arith}
+use Prim.Native.Nat.{ℕ}
 use lib.ListN.{length}
 use Rattle.lists.specs.Sums.{at}
 use Rattle.answer.specs.declared.Answer.{Answer}
 use Rattle.tables.specs.declared.Table.{Table}
-use Rattle.tables.specs.declared.Table.TheVariants.{Zones, Owners, Units, Accounts, Loads, Reservations, Firm}
-use Rattle.tables.specs.Shape.{place_of, width, limit, Tables, words_of}
+use Rattle.tables.specs.Shape.{place_of, Tables, words_of}
 use Rattle.tables.specs.Counts.{tables_in_turn}
 use Rattle.fileform.specs.Each.{in_order}
 use Rattle.fileform.proofs.Each.{order_at}
 use Rattle.fileread.specs.Calls.{full_size, read_room}
 use Rattle.fileread.specs.Steps.{rooms_in_turn}
-
--- no table of full size is large
-pub full_small : (table : Table) → limit table * width table ≤ 10 ^ 6
-full_small Zones = omega arith
-full_small Owners = omega arith
-full_small Units = omega arith
-full_small Accounts = omega arith
-full_small Loads = omega arith
-full_small Reservations = omega arith
-full_small Firm = omega arith
 
 -- the answer for a table, of lengths by the table's place
 abbrev pub room_of : List ℕ → Table → Answer
