@@ -3,8 +3,9 @@
 //! are taken in turn, and the first one that finds a fault ends the call: `specs/Turns.antt` says what that comes to.
 #![tactic(auto)]
 
-ghost use Rattle.std.specs.Prelude.{◌≡◌};
+ghost use Rattle.std.specs.Prelude.{◌≡◌, Some};
 ghost use Rattle.answer.specs.Numbers.{refusal_number, part_number};
+ghost use Rattle.answer.specs.Names.{refusal_name, answer_text};
 ghost use Rattle.answer.specs.Results.{Placed};
 
 use std::fmt;
@@ -71,6 +72,8 @@ impl Part {
 
 // The paper's name of a refusal.
 impl fmt::Display for Refusal {
+    ghost output = { λ r. Some (refusal_name r) };
+
     fn fmt<W: fmt::Write>(&self, f: &mut fmt::Formatter<W>) -> fmt::Result {
         f.write_str(match self {
             Refusal::Count => "COUNT",
@@ -142,6 +145,8 @@ impl<T: Drop> From<Result<T, Refused>> for Answer {
 }
 
 impl fmt::Display for Answer {
+    ghost output = { λ a. Some (answer_text a) };
+
     fn fmt<W: fmt::Write>(&self, f: &mut fmt::Formatter<W>) -> fmt::Result {
         write!(f, "{},{},{}", self.number, self.table, self.row)
     }

@@ -132,15 +132,16 @@ pub fn line_size(key: &[u8], fields: &[u64], before: usize, cap: usize) -> usize
     fields_size(fields, size, cap)
 }
 
-/// Writes bytes at `at`, and answers the place behind them.
-#[tactic(auto, using(crate::proofs::Stores::stored_part))]
+/// Writes bytes at `at`, and answers the place behind them. Byte by byte: of `copy_from_slice` the compiler makes a call of `memmove`, which
+/// the archive would then need from outside.
 pub fn put_bytes(bytes: &[u8], out: &mut [u8], at: usize) -> usize
     requires { at + length bytes.now ≤ length out.old }
     ensures { PutAt out.old at bytes.now result out.new }
 {
-    let end = at + bytes.len();
-    out[at..end].copy_from_slice(bytes);
-    end
+    for (k, &byte) in bytes.iter().enumerate() {
+        out[at + k] = byte;
+    }
+    at + bytes.len()
 }
 
 // Writes fields at `at`, each with what stands behind it, and answers the place behind them.

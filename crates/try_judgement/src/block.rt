@@ -8,7 +8,7 @@ use tables::{
 const PARTS: usize = 11;
 
 // The most words of a part: a firm reservation more than there may be.
-const MOST_WORDS: usize = 4_965;
+pub(crate) const MOST_WORDS: usize = 4_965;
 
 // How many entries a row of each part has.
 const WIDTHS: [usize; PARTS] = [

@@ -51,14 +51,17 @@ pub(crate) fn name_length(text: &[u8]) -> usize
         .unwrap_or(text.len())
 }
 
-// A part's words, up to the first place that is no number.
+// A part's words, up to the first place that is no number. One more than a part may have is kept, so that too many are seen to be, and
+// no further one.
 fn take_words<'a>(text: &'a [u8], words: &mut Vec<u64>) -> Result<&'a [u8], AllocError>
     ensures { IfOk result (λ rest. length rest.now ≤ length text.entry.now) }
 {
     let mut rest = text;
     // word by word: no index is counted
     while let Some((word, more)) = first(rest) {
-        words.push(word)?;
+        if words.len() <= block::MOST_WORDS {
+            words.push(word)?;
+        }
         rest = behind(more, b',');
     }
     Ok(rest)

@@ -4,6 +4,8 @@ use mathlib.Core.Path.{◌≡◌, sym, ap, ap₂, ◌∙◌}
 use Prim.Native.Nat.{◌+◌, ◌-◌, ◌*◌}
 use native.Mathlib.Omega.{arith}
 use lib.ListN.{length}
+use mir.Syntax.{w64}
+use Rattle.std.specs.Int.{to_le_bytes}
 use borrow.Rule.Slice.PartMut.{put_mid}
 use Rattle.lists.specs.Entries.{put}
 use Rattle.lists.proofs.Entries.{put_none}
@@ -18,7 +20,7 @@ pub loop-i-preserved : goal.loop-i-preserved
 loop-i-preserved c =
     let a = c.args in
     let i = c.loop-i.i in
-    ap₂ (put_mid (8 * i) (8 * (i + 1) - 8 * i)) c.loop-i.invariant (c.copy_from_slice.ensures.after ∙ c.to_le_bytes.ensures)
+    ap₂ (put_mid (8 * i) (8 * (i + 1) - 8 * i)) c.loop-i.invariant (c.copy_from_slice.ensures.after ∙ c.to_le_bytes.ensures ∙ ap (to_le_bytes w64) (grind arith))
     ∙ word_stored a.values.now a.lent.now i (omega arith) c.requires
 
 pub returns : goal.returns

@@ -2,6 +2,9 @@
 -- Assumes nothing.
 use mathlib.Core.Path.{sym, ap, ◌∙◌}
 use Rattle.std.proofs.lemmas.Result.{err_from_is_err_and}
+use native.Mathlib.Omega.{arith}
+use Rattle.answer.specs.Numbers.{TEXT, HEAD}
+use Rattle.answer.specs.Turns.{refusal}
 use Rattle.answer.specs.Results.{refused_answer}
 use Rattle.fileform.specs.Form.{month_form}
 use Rattle.fileread.proofs.LineWalks.{asked, end_missing, end_other, end_behind, end_fine}
@@ -25,7 +28,7 @@ pub returns-then-number-text : goal.returns-then-number-text
 returns-then-number-text c =
     let line = rw c.in_ok-number.ensures.ok_part at c.one_number.ensures in
     end_behind month_form.last c.args.text.now c.args.at _ c.requires.0 c.in_ok-number.number.value c.in_ok-number.number.next line.0 line.1
-    (c.if-number-total.false ∙ c.rows_in_all-total.ensures) c.if-number-text.true _ c.unfit-then-number-text.ensures
+    (c.if-number-total.false ∙ c.rows_in_all-total.ensures) c.if-number-text.true _ (c.unfit-then-number-text.ensures ∙ ap (refusal TEXT HEAD) (grind arith))
 
 pub returns : goal.returns
 returns c =
